@@ -1,0 +1,5 @@
+pub mod Check
+pub mod Number
+pub mod Container
+pub mod Strings
+pub mod Varint
