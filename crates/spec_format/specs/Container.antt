@@ -36,6 +36,14 @@ section_end bytes k = number32 bytes (end_entry k)
 abbrev pub section : List ℕ → ℕ → List ℕ
 section bytes k = slice_range bytes (section_start bytes k) (section_end bytes k)
 
+-- the digest in the header is that of all that stands behind it
+abbrev pub HasDigest : List ℕ → Type 0
+HasDigest bytes = take 32 (drop 16 bytes) ≡ sha256 (drop 48 bytes)
+
+-- there are as many sections as there may be, and their ends fit
+abbrev pub HasSectionEnds : List ℕ → Type 0
+HasSectionEnds bytes = (4 ≤ section_count bytes) × (section_count bytes ≤ 19) × (end_entry (section_count bytes) ≤ length bytes)
+
 abbrev pub header_checks : List ℕ → List Check
 header_checks bytes =
     check (length bytes ≤ 67108864) TooLong 67108864
@@ -43,8 +51,8 @@ header_checks bytes =
     ∷ check (take 8 bytes ≡ magic) BadMagic 0
     ∷ check (number32 bytes 8 ≡ 1) BadVersion 8
     ∷ check (number32 bytes 12 ≡ length bytes) BadLength 12
-    ∷ check (take 32 (drop 16 bytes) ≡ sha256 (drop 48 bytes)) BadDigest 16
-    ∷ check ((4 ≤ section_count bytes) × (section_count bytes ≤ 19) × (end_entry (section_count bytes) ≤ length bytes)) BadSections 48
+    ∷ check (HasDigest bytes) BadDigest 16
+    ∷ check (HasSectionEnds bytes) BadSections 48
     ∷ []
 
 -- a section ends at or behind its start, and within the blob

@@ -1,0 +1,6 @@
+//! Texts of code units.
+#![tactic(auto)]
+
+mod view;
+
+pub use view::StrView;
