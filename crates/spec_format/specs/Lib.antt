@@ -3,3 +3,4 @@ pub mod Number
 pub mod Container
 pub mod Strings
 pub mod Varint
+pub mod Laws

@@ -3,5 +3,10 @@
 #![tactic(auto)]
 
 mod fault;
+mod laws;
 
 pub use fault::{BlobFault, BlobKind};
+pub use laws::{
+    container_is_read, container_is_spelled, one_container_fault, one_string_fault,
+    strings_are_read, strings_are_spelled,
+};

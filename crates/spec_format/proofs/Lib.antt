@@ -1,0 +1,5 @@
+pub mod Checks
+pub mod Numbers
+pub mod Pieces
+pub mod StringLists
+pub mod Containers
