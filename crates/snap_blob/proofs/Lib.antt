@@ -1,3 +1,1 @@
-pub mod Checks
-pub mod Containers
 pub mod StringLists

@@ -6,5 +6,5 @@ mod field;
 mod ro_strings;
 
 pub use container::{BLOB_LIMIT, Container};
-pub use ro_strings::RoStrings;
+pub use ro_strings::{RoStrings, node_count};
 pub use spec_format::{BlobFault, BlobKind};

@@ -1,6 +1,6 @@
 //! The list of strings at the front of the read-only section.
 
-ghost use Rattle.std.specs.Prelude.{◌≡◌, ◌+◌, ◌*◌, ◌<◌, ◌≤◌, ◌^◌, ◌↔◌, suc, length, drop, IsTrue, IfOk};
+ghost use Rattle.std.specs.Prelude.{◌≡◌, ◌+◌, ◌*◌, ◌<◌, ◌≤◌, ◌^◌, ◌↔◌, suc, length, drop, IsTrue, IfOk, MatchOption};
 ghost use Rattle.spec_format.specs.Check.{AllHold, Passes, each};
 ghost use Rattle.spec_format.specs.Strings.{IsBelow, count_checks, end_before, first_byte, node_count, node_end_checks, string, string_checks, string_count, string_end, string_end_checks, string_list_checks, strings_start};
 ghost use Rattle.snap_blob.specs.Ordered.{AllLie, IsBefore};
@@ -60,7 +60,8 @@ impl<'a> RoStrings<'a> {
 
     /// What stands behind the string bytes.
     pub fn rest(&self) -> &'a [u8]
-        ensures { result.now ≡ drop (first_byte (section_of self.now) (string_count (section_of self.now))) (section_of self.now) }
+        ensures bytes { result.now ≡ drop (first_byte (section_of self.now) (string_count (section_of self.now))) (section_of self.now) }
+        ensures place { first_byte (section_of self.now) (string_count (section_of self.now)) + length result.now ≡ length (section_of self.now) }
     {
         let end = self.first_byte(self.strings() as usize);
         &self.section[end..]
@@ -78,6 +79,16 @@ impl<'a> RoStrings<'a> {
             start + number32(self.section, 4 + 4 * i) as usize
         }
     }
+}
+
+/// How many nodes a read-only section says that it has, or `None` where it is too short to say.
+pub fn node_count(section: &[u8]) -> Option<u32>
+    ensures { MatchOption result (length section.now < 8) (λ n. (8 ≤ length section.now) × (n ≡ node_count section.now)) }
+{
+    if section.len() < 8 {
+        return None;
+    }
+    Some(number32(section, 4))
 }
 
 // Where the string bytes begin.
@@ -127,10 +138,7 @@ fn string_end(section: &[u8], base: usize, i: usize, before: u32) -> Result<u32,
         return Err(fault(BlobKind::Truncated, base + entry));
     }
     let end = number32(section, entry);
-    if end < before {
-        return Err(fault(BlobKind::BadString, base + entry));
-    }
-    if STRING_LIMIT < end - before {
+    if end < before || STRING_LIMIT < end - before {
         return Err(fault(BlobKind::BadString, base + entry));
     }
     Ok(end)

@@ -1,5 +1,5 @@
 -- What holds of a list of checks, whichever they are.
-use Rattle.std.proofs.Common.{◌≡◌, ℕ, zero, suc, ◌<◌, List, [], ◌∷◌, ◌++◌, inl, inr, sym, subst, ◌∙◌, arith}
+use Rattle.std.proofs.Common.{◌≡◌, ℕ, zero, suc, ◌+◌, ◌<◌, add-one, List, [], ◌∷◌, ◌++◌, inl, inr, sym, subst, ◌∙◌, arith}
 use Rattle.std.proofs.lemmas.Bool.{cases_lt}
 use Rattle.spec_format.specs.declared.fault.BlobFault.{BlobFault}
 use Rattle.spec_format.specs.Check.{Check, AllHold, FirstFault, each}
@@ -47,4 +47,29 @@ each_at (suc n) checks k lt h =
       | inl below ↦ each_at n checks k below (AllHold-left (each n checks) (checks n) h)
       | inr le ↦ let e : n ≡ k = omega arith in
           let P : ℕ → Type 0 = λ i. AllHold (checks i) in subst P e (AllHold-right (each n checks) (checks n) h)
+    ]
+
+-- a fault of the first of two lists is one of both
+pub FirstFault-left : (xs ys : List Check) (f : BlobFault) → FirstFault xs f → FirstFault (xs ++ ys) f
+FirstFault-left [] ys f h = absurd h
+FirstFault-left (x ∷ xs) ys f (inl h) = inl h
+FirstFault-left (x ∷ xs) ys f (inr h) = inr (h.0, FirstFault-left xs ys f h.1)
+
+-- where the first of two lists holds, a fault of the second is one of both
+pub FirstFault-right : (xs ys : List Check) (f : BlobFault) → AllHold xs → FirstFault ys f → FirstFault (xs ++ ys) f
+FirstFault-right [] ys f p h = h
+FirstFault-right (x ∷ xs) ys f p h = inr (p.0, FirstFault-right xs ys f p.1 h)
+
+-- the checks of one number more
+pub each_more : (checks : ℕ → List Check) (n : ℕ) → AllHold (each n checks) → AllHold (checks n) → AllHold (each (n + 1) checks)
+each_more checks n p q = rw add-one (AllHold-append (each n checks) (checks n) p q)
+
+-- the first fault of the checks of one number, where those of each number below it hold
+pub each_fault : (checks : ℕ → List Check) (n i : ℕ) (f : BlobFault) → i < n → AllHold (each i checks) → FirstFault (checks i) f → FirstFault (each n checks) f
+each_fault checks zero i f lt p h = absurd (omega arith)
+each_fault checks (suc n) i f lt p h =
+    elim (cases_lt i n) [
+      | inl below ↦ FirstFault-left (each n checks) (checks n) f (each_fault checks n i f below p h)
+      | inr le ↦ let e : i ≡ n = omega arith in
+          let P : ℕ → Type 0 = λ k. FirstFault (each (suc k) checks) f in subst P e (FirstFault-right (each i checks) (checks i) f p h)
     ]

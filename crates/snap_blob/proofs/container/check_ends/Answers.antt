@@ -2,7 +2,7 @@ use Rattle.std.proofs.Common.{◌≡◌, ℕ, zero, suc, ◌-◌, List, ◌<◌,
 use Rattle.spec_format.specs.declared.fault.BlobKind.TheVariants.{BadSections}
 use Rattle.spec_format.specs.Check.{AllHold, FirstFault, each}
 use Rattle.spec_format.specs.Container.{last_check, section_checks, section_count, section_end, section_start}
-use Rattle.snap_blob.proofs.Checks.{AllHold_append, FirstFault_left, FirstFault_right, each_fault, each_more}
+use Rattle.spec_format.proofs.Checks.{AllHold-append, FirstFault-left, FirstFault-right, each_fault, each_more}
 use Rattle.snap_blob.proofs.container.check_ends.Goals as goal
 use Rattle.snap_blob.proofs.container.check_ends.Goals.{then-end-start-via-then-end-start, then-end-start-via-else-end-start+then-bytes-end}
 
@@ -16,7 +16,7 @@ returns-then-end-start c =
     let bytes = c.args.bytes.now in
     let k = c.loop-k.k in
     let below : k < section_count bytes = omega arith in
-    FirstFault_left (each (section_count bytes) (section_checks bytes)) (last_check bytes) c.fault.result
+    FirstFault-left (each (section_count bytes) (section_checks bytes)) (last_check bytes) c.fault.result
     (each_fault (section_checks bytes) (section_count bytes) k c.fault.result below c.loop-k.invariant.ends
     (inl (λ h. elim c.then-end-start.branch [ then-end-start-via-then-end-start w ↦ omega arith | then-end-start-via-else-end-start+then-bytes-end w ↦ omega arith ], c.fault.ensures)))
 
@@ -31,7 +31,7 @@ returns-then-start-bytes c =
     let bytes = c.args.bytes.now in
     let n-is : c.loop-k.k ≡ section_count bytes = omega arith in
     let last : c.loop-k.start ≡ section_end bytes (section_count bytes - 1) = c.loop-k.invariant.begins ∙ last_end bytes c.loop-k.k (section_count bytes) n-is (omega arith) in
-    FirstFault_right (each (section_count bytes) (section_checks bytes)) (last_check bytes) c.fault-then-start-bytes.result
+    FirstFault-right (each (section_count bytes) (section_checks bytes)) (last_check bytes) c.fault-then-start-bytes.result
     (subst (λ (n : ℕ). AllHold (each n (section_checks bytes))) n-is c.loop-k.invariant.ends)
     (inl (λ h. c.if-start-bytes.true (last ∙ h), c.fault-then-start-bytes.ensures ∙ ap (λ (n : ℕ). record { kind = BadSections; at = 52 + 4 * (n - 1) }) c.number32-count.ensures))
 
@@ -40,6 +40,6 @@ returns c =
     let bytes = c.args.bytes.now in
     let n-is : c.loop-k.k ≡ section_count bytes = omega arith in
     let last : c.loop-k.start ≡ section_end bytes (section_count bytes - 1) = c.loop-k.invariant.begins ∙ last_end bytes c.loop-k.k (section_count bytes) n-is (omega arith) in
-    AllHold_append (each (section_count bytes) (section_checks bytes)) (last_check bytes)
+    AllHold-append (each (section_count bytes) (section_checks bytes)) (last_check bytes)
     (subst (λ (n : ℕ). AllHold (each n (section_checks bytes))) n-is c.loop-k.invariant.ends)
     (sym last ∙ c.if-start-bytes.false, tt)

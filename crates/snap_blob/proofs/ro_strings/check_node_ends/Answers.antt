@@ -1,7 +1,7 @@
 use Rattle.std.proofs.Common.{◌≡◌, ◌+◌, ◌-◌, ◌*◌, ◌/◌, ◌<◌, ◌≤◌, ℕ, length, ap, ◌∙◌, inl, arith}
 use Rattle.spec_format.specs.declared.fault.BlobKind.TheVariants.{Truncated}
 use Rattle.spec_format.specs.Strings.{node_count, node_end_checks, node_end_entry, string_count}
-use Rattle.snap_blob.proofs.Checks.{each_fault}
+use Rattle.spec_format.proofs.Checks.{each_fault}
 use Rattle.snap_blob.proofs.StringLists.{node_ends_hold}
 use Rattle.snap_blob.proofs.ro_strings.check_node_ends.Goals as goal
 

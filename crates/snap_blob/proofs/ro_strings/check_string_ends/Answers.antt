@@ -1,7 +1,7 @@
 use Rattle.std.proofs.Common.{◌<◌, ◌≤◌, add-one, arith}
 use Rattle.std.proofs.lemmas.Result.{err_from_is_err_and}
 use Rattle.spec_format.specs.Strings.{string_count, string_end_checks}
-use Rattle.snap_blob.proofs.Checks.{each_fault, each_more}
+use Rattle.spec_format.proofs.Checks.{each_fault, each_more}
 use Rattle.snap_blob.proofs.ro_strings.check_string_ends.Goals as goal
 
 pub returns-in_err-before : goal.returns-in_err-before

@@ -1,7 +1,7 @@
 use Rattle.std.proofs.Common.{◌<◌, ◌≤◌, add-one, arith}
 use Rattle.std.proofs.lemmas.Result.{err_from_is_err_and}
 use Rattle.spec_format.specs.Strings.{string_checks, string_count}
-use Rattle.snap_blob.proofs.Checks.{each_fault, each_more}
+use Rattle.spec_format.proofs.Checks.{each_fault, each_more}
 use Rattle.snap_blob.proofs.StringLists.{end_ordered}
 use Rattle.snap_blob.proofs.ro_strings.check_strings.Goals as goal
 
