@@ -3,5 +3,7 @@
 #![tactic(auto)]
 
 mod fault;
+mod varint_laws;
 
 pub use fault::{BlobFault, BlobKind};
+pub use varint_laws::{every_number, one_varint};
