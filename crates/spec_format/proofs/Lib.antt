@@ -3,3 +3,4 @@ pub mod Numbers
 pub mod Pieces
 pub mod StringLists
 pub mod Containers
+pub mod Spellings

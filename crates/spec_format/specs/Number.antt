@@ -10,6 +10,10 @@ AreBytes bytes = All (λ b. b < 256) bytes
 unfoldable pub number32 : List ℕ → ℕ → ℕ
 number32 bytes at = little_number 4 (drop at bytes)
 
+-- the number in the eight bytes from a place on
+unfoldable pub number64 : List ℕ → ℕ → ℕ
+number64 bytes at = little_number 8 (drop at bytes)
+
 -- the four bytes of a number below 2 ^ 32
 unfoldable pub spelled32 : ℕ → List ℕ
 spelled32 n = little_bytes 4 n

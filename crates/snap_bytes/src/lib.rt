@@ -1,0 +1,15 @@
+//! Bytes, read from front to back: fields of so many bytes, fixed numbers with their low byte first,
+//! and varints. Beside the reader stands the writer of varints.
+#![tactic(auto)]
+
+mod cursor;
+mod fault;
+mod reading;
+mod writing;
+
+pub use cursor::Cursor;
+pub use fault::{ByteFault, NoMemory};
+pub use writing::put_varint;
+
+#[cfg(test)]
+mod tests;

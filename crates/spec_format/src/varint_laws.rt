@@ -1,0 +1,15 @@
+//! Laws of varints.
+
+ghost use Rattle.std.specs.Prelude.{◌≡◌, ℕ, List, ◌++◌};
+ghost use Rattle.spec_format.specs.Varint.{IsVarint};
+
+/// No spelling of a number begins another, and a number has one spelling, so what was written is
+/// read again, whatever follows it.
+pub fn one_varint()
+    ensures { (a b x y : List ℕ) (m n : ℕ) → IsVarint a m → IsVarint b n → a ++ x ≡ b ++ y → (a ≡ b) × (m ≡ n) }
+{}
+
+/// Every number has a spelling.
+pub fn every_number()
+    ensures { (n : ℕ) → (text : List ℕ) × IsVarint text n }
+{}
