@@ -1,3 +1,13 @@
 pub mod Counts
 pub mod Held
 pub mod Written
+pub mod OneMore
+pub mod NamedFile
+pub mod FaultPlan
+pub mod Taken
+pub mod MemFiles
+pub mod HonestFiles
+pub mod OsFiles
+pub mod MemSink
+pub mod HonestSink
+pub mod StdSink
