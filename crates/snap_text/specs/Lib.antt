@@ -1,1 +1,2 @@
 pub mod StrView
+pub mod Utf8

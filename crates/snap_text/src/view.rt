@@ -1,7 +1,11 @@
 //! A text that stands in bytes that somebody else keeps.
 
-ghost use Rattle.std.specs.Prelude.{◌≡◌, ◌<◌, ◌^◌, ◌↔◌, [], length, slice_index, IsTrue};
+ghost use Rattle.std.specs.Prelude.{◌≡◌, ◌<◌, ◌^◌, ◌↔◌, [], length, slice_index, IsTrue, IfOk};
 ghost use Rattle.snap_text.specs.StrView.{pairs, units};
+
+use crate::no_memory::NoMemory;
+use crate::units::{Units, widened};
+use std::alloc::Global;
 
 /// A view of a text in borrowed bytes. It is seen as its list of code units.
 #[derive(Clone, Copy)]
@@ -43,6 +47,66 @@ impl StrView<'_> {
             StrView::Two(bytes) => pair_at(bytes, i),
         }
     }
+
+    /// Whether the view's units are those of a text.
+    pub fn same(&self, text: &Units) -> bool
+        ensures { IsTrue result ↔ (units self.now ≡ text.now) }
+    {
+        match self {
+            StrView::One(bytes) => same_bytes(bytes, text.units()),
+            StrView::Two(bytes) => same_pairs(bytes, text.units()),
+        }
+    }
+
+    /// A text of the view's units, or want of memory.
+    pub fn copy(&self, alloc: Global) -> Result<Units, NoMemory>
+        ensures { IfOk result (λ text. text ≡ units self.now) }
+    {
+        match self {
+            StrView::One(bytes) => widened(alloc, bytes),
+            StrView::Two(bytes) => paired(alloc, bytes),
+        }
+    }
+}
+
+fn same_bytes(bytes: &[u8], text: &[u16]) -> bool
+    ensures { IsTrue result ↔ (bytes.now ≡ text.now) }
+{
+    if bytes.len() != text.len() {
+        return false;
+    }
+    for (i, byte) in bytes.iter().enumerate() {
+        if u16::from(*byte) != text[i] {
+            return false;
+        }
+    }
+    true
+}
+
+fn same_pairs(bytes: &[u8], text: &[u16]) -> bool
+    ensures { IsTrue result ↔ (pairs bytes.now ≡ text.now) }
+{
+    if pair_count(bytes) != text.len() {
+        return false;
+    }
+    for (i, unit) in text.iter().enumerate() {
+        if pair_at(bytes, i) != *unit {
+            return false;
+        }
+    }
+    true
+}
+
+// Pairs of bytes as units.
+fn paired(alloc: Global, bytes: &[u8]) -> Result<Units, NoMemory>
+    ensures { IfOk result (λ text. text ≡ pairs bytes.now) }
+{
+    let count = pair_count(bytes);
+    let mut text = Vec::with_capacity(alloc, count)?;
+    for i in 0..count {
+        text.push(pair_at(bytes, i))?;
+    }
+    Ok(Units::from_vec(text))
 }
 
 #[tactic(auto, using(crate::proofs::Pairs::length_pairs))]
@@ -63,6 +127,7 @@ fn pair_at(bytes: &[u8], i: usize) -> u16
 #[cfg(test)]
 mod tests {
     use super::*;
+    use std::test::Fail;
 
     #[test]
     fn reads_units(rt: HostRuntime) {
@@ -74,5 +139,35 @@ mod tests {
         assert_eq!(rt; two.unit(0), 97);
         assert_eq!(rt; two.unit(1), 0x1234);
         assert!(rt; StrView::One(&[]).is_empty());
+    }
+
+    #[test]
+    fn compares_and_copies(rt: HostRuntime) -> Result<(), Fail> {
+        let rows: [(StrView, &[u16], bool); 12] = [
+            (StrView::One(&[]), &[], true),
+            (StrView::Two(&[]), &[], true),
+            (StrView::One(&[0x61, 0xFF]), &[0x61, 0xFF], true),
+            (StrView::One(&[0x61, 0xFF]), &[0x61], false),
+            (StrView::One(&[0x61, 0xFF]), &[0x61, 0xFF, 0], false),
+            (StrView::One(&[0x61, 0xFF]), &[0x61, 0xFE], false),
+            (StrView::Two(&[0x61, 0, 0x34, 0x12]), &[0x61, 0x1234], true),
+            (StrView::Two(&[0x61, 0, 0x34, 0x12]), &[0x61], false),
+            (
+                StrView::Two(&[0x61, 0, 0x34, 0x12]),
+                &[0x61, 0x1234, 0],
+                false,
+            ),
+            (StrView::Two(&[0x61, 0, 0x34, 0x12]), &[0x61, 0x34], false),
+            (StrView::Two(&[0x61, 0, 0x34, 0x12]), &[0x61, 0x3412], false),
+            (StrView::Two(&[0x61, 0, 0x62]), &[0x61], true),
+        ];
+        for (view, units, same) in rows {
+            let text = Units::of(rt.alloc(), units)?;
+            assert_eq!(rt; view.same(&text), same, "of {units:?}");
+            let copy = view.copy(rt.alloc())?;
+            assert!(rt; view.same(&copy), "of {units:?}");
+            assert_eq!(rt; copy.units() == units, same, "of {units:?}");
+        }
+        Ok(())
     }
 }

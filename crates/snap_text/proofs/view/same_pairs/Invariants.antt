@@ -1,0 +1,6 @@
+use Rattle.std.proofs.Common.{◌≡◌, take}
+use Rattle.snap_text.specs.StrView.{pairs}
+use Rattle.snap_text.proofs.view.same_pairs.Given as goal
+
+abbrev pub invariant-loop-i : goal.invariant-loop-i
+invariant-loop-i l = take l.i (pairs l.bytes) ≡ take l.i l.text
