@@ -1,0 +1,73 @@
+-- What follows for the top call from how an answer comes about and how it is told.
+use Rattle.std.proofs.Common.{◌≡◌, ◌≢◌, ℕ, List, [], ◌∷◌, ◌++◌, ◌⊎◌, Option, Some, None, Result, Ok, Err, ap, inl, inr, refl, subst, sym, ◌∙◌}
+use Rattle.std.specs.Prelude.{IfSome}
+use Rattle.std.proofs.lemmas.List.{append-nil}
+use Rattle.snap_io.specs.Counts.{HasRisen}
+use Rattle.snap_io.specs.Held.{Held, bytes_under}
+use Rattle.snap_io.specs.Written.{AppendsInPart, appended}
+use Rattle.snap.specs.declared.fault.Fault.{Fault}
+use Rattle.snap.specs.declared.fault.Fault.TheVariants as fault
+use Rattle.snap.specs.Coming.{Asked, Comes, Judged, NoJob, Unread}
+use Rattle.snap.specs.Coming as coming
+use Rattle.snap.specs.Line.{fault_of, line_of}
+use Rattle.snap.specs.Telling.{InPart, Sunk, Tells, Whole}
+use Rattle.snap.specs.Telling as telling
+use Rattle.snap.specs.Verify.{Answers}
+use Rattle.snap.proofs.OneAnswer.{one_answer_lem}
+
+-- the answer is the defined one, or memory ran out
+is_defined : (job : Option (List ℕ)) (before now : ℕ) (held : Held) (said answer : Result ℕ Fault) → Comes job (record { held = Some held; faults_before = before; faults_after = now }) said → (HasRisen before now → ⊥) → Answers held job answer → (said ≡ answer) ⊎ (said ≡ Err fault.NoMemory)
+is_defined job before now held said answer (NoJob none is same) steady defined =
+    inl (is ∙ sym (subst (λ (j : Option (List ℕ)). Answers held j answer) none defined))
+is_defined job before now held said answer (Judged name some verdict judged same) steady defined =
+    inl (one_answer_lem held (Some name) said answer judged (subst (λ (j : Option (List ℕ)). Answers held j answer) some defined))
+is_defined job before now held said answer (Unread name some is rose up) steady defined = absurd (steady rose)
+is_defined job before now held said answer (coming.Starved is same) steady defined = inr is
+
+only_held : (held : Held) (job : Option (List ℕ)) (before now : ℕ) (said answer : Result ℕ Fault) (told : Option Fault) (sink : Sunk) → Comes job (record { held = Some held; faults_before = before; faults_after = now }) said → Tells job said told sink
+    → Answers held job answer → (HasRisen before now → ⊥) → (HasRisen sink.faults_before sink.faults_after → ⊥) → told ≢ Some fault.NoMemory → told ≡ fault_of answer
+only_held held job before now said answer told sink comes (Whole is written same) defined steady calm fed =
+    elim (is_defined job before now held said answer comes steady defined) [
+      | inl e ↦ is ∙ ap fault_of e
+      | inr e ↦ absurd (fed (is ∙ ap fault_of e))
+    ]
+only_held held job before now said answer told sink comes (InPart is part rose up) defined steady calm fed = absurd (calm rose)
+only_held held job before now said answer told sink comes (telling.Starved is written same) defined steady calm fed = absurd (fed is)
+
+-- the fault in the end is that of the defined answer
+pub only_defined : (held : Option Held) (job : Option (List ℕ)) (before now : ℕ) (said : Result ℕ Fault) (told : Option Fault) (sink : Sunk) → Comes job (record { held = held; faults_before = before; faults_after = now }) said → Tells job said told sink
+    → IfSome held (λ h. (answer : Result ℕ Fault) → Answers h job answer → (HasRisen before now → ⊥) → (HasRisen sink.faults_before sink.faults_after → ⊥) → told ≢ Some fault.NoMemory → told ≡ fault_of answer)
+only_defined None job before now said told sink comes tells = tt
+only_defined (Some held) job before now said told sink comes tells =
+    λ answer defined steady calm fed. only_held held job before now said answer told sink comes tells defined steady calm fed
+
+-- nothing is a prefix of every line
+appends_nothing : (line : List ℕ) (before after : Option (List ℕ)) → after ≡ before → AppendsInPart line before after
+appends_nothing line None after e = ([], (line, refl), e)
+appends_nothing line (Some written) after e = ([], (line, refl), e ∙ ap (λ (w : List ℕ). Some w) (sym (append-nil written)))
+
+-- a prefix of nothing is a prefix of every line
+appends_of_nothing : (line : List ℕ) (before after : Option (List ℕ)) → AppendsInPart [] before after → AppendsInPart line before after
+appends_of_nothing line before after ([], rest, e) = ([], (line, refl), e)
+appends_of_nothing line before after (x ∷ part, (rest, whole), e) = absurd cc
+
+prefix_held : (held : Held) (job : Option (List ℕ)) (before now : ℕ) (said answer : Result ℕ Fault) (told : Option Fault) (sink : Sunk) → Comes job (record { held = Some held; faults_before = before; faults_after = now }) said → Tells job said told sink
+    → Answers held job answer → (HasRisen before now → ⊥) → AppendsInPart (line_of job answer) sink.before sink.after
+prefix_held held job before now said answer told sink comes (Whole is written same) defined steady =
+    elim (is_defined job before now held said answer comes steady defined) [
+      | inl e ↦ (line_of job answer, ([], append-nil (line_of job answer)), written ∙ ap (λ (a : Result ℕ Fault). appended sink.before (line_of job a)) e)
+      | inr e ↦ appends_of_nothing (line_of job answer) sink.before sink.after ([], ([], refl), written ∙ ap (λ (a : Result ℕ Fault). appended sink.before (line_of job a)) e)
+    ]
+prefix_held held job before now said answer told sink comes (InPart is part rose up) defined steady =
+    elim (is_defined job before now held said answer comes steady defined) [
+      | inl e ↦ subst (λ (a : Result ℕ Fault). AppendsInPart (line_of job a) sink.before sink.after) e part
+      | inr e ↦ appends_of_nothing (line_of job answer) sink.before sink.after (subst (λ (a : Result ℕ Fault). AppendsInPart (line_of job a) sink.before sink.after) e part)
+    ]
+prefix_held held job before now said answer told sink comes (telling.Starved is written same) defined steady = appends_nothing (line_of job answer) sink.before sink.after written
+
+-- the sink gets a prefix of the line of the defined answer
+pub prefix_defined : (held : Option Held) (job : Option (List ℕ)) (before now : ℕ) (said : Result ℕ Fault) (told : Option Fault) (sink : Sunk) → Comes job (record { held = held; faults_before = before; faults_after = now }) said → Tells job said told sink
+    → IfSome held (λ h. (answer : Result ℕ Fault) → Answers h job answer → (HasRisen before now → ⊥) → AppendsInPart (line_of job answer) sink.before sink.after)
+prefix_defined None job before now said told sink comes tells = tt
+prefix_defined (Some held) job before now said told sink comes tells =
+    λ answer defined steady. prefix_held held job before now said answer told sink comes tells defined steady

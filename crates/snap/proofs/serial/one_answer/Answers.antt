@@ -1,0 +1,5 @@
+use Rattle.snap.proofs.OneAnswer.{one_answer_lem}
+use Rattle.snap.proofs.serial.one_answer.Goals as goal
+
+pub returns : goal.returns
+returns c = one_answer_lem

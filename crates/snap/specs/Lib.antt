@@ -1,0 +1,5 @@
+pub mod Words
+pub mod Verify
+pub mod Line
+pub mod Coming
+pub mod Telling

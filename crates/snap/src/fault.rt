@@ -1,0 +1,20 @@
+//! Why the program refuses, and what it comes to.
+
+use spec_format::BlobFault;
+
+/// Why a command was refused or not told whole.
+#[derive(Clone, Copy, Debug, PartialEq, Eq)]
+pub enum Fault {
+    /// The words ask for nothing that there is.
+    Words,
+    /// The blob has this fault first.
+    Blob(BlobFault),
+    /// The blob has more in it than this program reads.
+    NotBuilt,
+    /// A read of the files failed.
+    Read,
+    /// A write to the sink failed.
+    Write,
+    /// Memory ran out.
+    NoMemory,
+}

@@ -1,0 +1,81 @@
+//! The line that tells an answer.
+
+ghost use Rattle.std.specs.Prelude.{◌≡◌, IfOk};
+ghost use Rattle.std.specs.Option.{option_map};
+ghost use Rattle.std.specs.String.{string_bytes};
+ghost use Rattle.snap.specs.Line.{kind_name, line_of, status_of};
+
+use crate::fault::Fault;
+use snap_blob::{BlobFault, BlobKind};
+use std::alloc::{AllocError, Global};
+
+/// The line of an answer to a job, with its line feed; nothing where the answer has no line.
+pub(crate) fn line_of(
+    alloc: Global,
+    job: Option<&str>,
+    answer: Result<u32, Fault>,
+) -> Result<String, AllocError>
+    ensures { IfOk result (λ line. string_bytes line ≡ line_of (option_map (λ name. name.now) job.entry) answer) }
+{
+    match answer {
+        Ok(count) => format!(in alloc; "ok {count} strings\n"),
+        Err(Fault::Words) => String::from_str(alloc, "words refused\n"),
+        Err(Fault::Blob(fault)) => refusal(alloc, fault),
+        Err(Fault::NotBuilt) => String::from_str(alloc, "not built\n"),
+        Err(Fault::Read) => {
+            let name = job.unwrap_or("");
+            format!(in alloc; "read failed: {name}\n")
+        }
+        Err(Fault::Write | Fault::NoMemory) => Ok(String::new(alloc)),
+    }
+}
+
+fn refusal(alloc: Global, fault: BlobFault) -> Result<String, AllocError>
+    ensures { IfOk result (λ line. string_bytes line ≡ line_of None (Err (Fault.Blob fault))) }
+{
+    let kind = kind_name(fault.kind);
+    let at = fault.at;
+    format!(in alloc; "blob refused: {kind} at {at}\n")
+}
+
+/// The name of a kind.
+fn kind_name(kind: BlobKind) -> &'static str
+    ensures { result.now ≡ kind_name kind }
+{
+    match kind {
+        BlobKind::TooLong => "TooLong",
+        BlobKind::TooShort => "TooShort",
+        BlobKind::BadMagic => "BadMagic",
+        BlobKind::BadVersion => "BadVersion",
+        BlobKind::BadLength => "BadLength",
+        BlobKind::BadDigest => "BadDigest",
+        BlobKind::BadSections => "BadSections",
+        BlobKind::ExternalMissing(_) => "ExternalMissing",
+        BlobKind::Truncated => "Truncated",
+        BlobKind::BadOp => "BadOp",
+        BlobKind::BadNumber => "BadNumber",
+        BlobKind::BadString => "BadString",
+        BlobKind::BadReference => "BadReference",
+        BlobKind::BadShape => "BadShape",
+        BlobKind::BadTable => "BadTable",
+        BlobKind::BadSource => "BadSource",
+        BlobKind::BadScope => "BadScope",
+        BlobKind::BadRoot => "BadRoot",
+        BlobKind::Trailing => "Trailing",
+    }
+}
+
+/// The status of a fault, and 0 where there is none.
+pub(crate) fn status_of(fault: Option<Fault>) -> u8
+    ensures { result ≡ status_of fault }
+{
+    match fault {
+        None => 0,
+        Some(Fault::Words) => 2,
+        Some(Fault::Blob(_)) => 5,
+        Some(Fault::Read) => 6,
+        Some(Fault::Write) => 7,
+        Some(Fault::NoMemory) => 9,
+        Some(Fault::NotBuilt) => 11,
+    }
+}
