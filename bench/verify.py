@@ -57,21 +57,30 @@ def run(command, wanted):
     return seconds, usage.ru_maxrss
 
 
-def main():
+def make(name):
+    """Writes the blob into a file."""
     context = bytes([1, 9, 0x10, 0, 7, 0, 0x20, 0, 0, 0, 0, 0])
     blob = sealed([b"\0", read_only_section(), bytes(11), context])
-    digest = hashlib.sha256(blob).hexdigest().encode()
+    with open(name, "wb") as file:
+        file.write(blob)
+    print(hashlib.sha256(blob).hexdigest())
+
+
+def main():
+    if len(sys.argv) == 3 and sys.argv[1] == "--make":
+        return make(sys.argv[2])
     with tempfile.TemporaryDirectory() as folder:
         name = os.path.join(folder, "strings.blob")
-        with open(name, "wb") as file:
-            file.write(blob)
+        # In a process of its own: what a parent holds counts in its children's peaks.
+        maker = [sys.executable, os.path.abspath(__file__), "--make", name]
+        digest = subprocess.run(maker, stdout=subprocess.PIPE, check=True).stdout.strip()
+        size = os.path.getsize(name)
         ours, theirs, peaks = [], [], []
         for _ in range(RUNS):
             seconds, peak = run([SNAP, "verify", name], b"ok %d strings\n" % STRINGS)
             ours.append(seconds)
             peaks.append(peak)
             theirs.append(run(["sha256sum", name], digest)[0])
-    size = len(blob)
     mine, yardstick = statistics.median(ours), statistics.median(theirs)
     print(f"blob              {size} bytes, {STRINGS} strings")
     print(f"snap verify       {mine:.3f} s")
