@@ -1,1 +1,4 @@
 pub mod StringLists
+pub mod Pieces
+pub mod Sealed
+pub mod Parts

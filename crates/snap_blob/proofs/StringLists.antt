@@ -1,9 +1,9 @@
 -- What the checks of a list of strings say of its places.
-use Rattle.std.proofs.Common.{◌≡◌, ℕ, zero, suc, ◌+◌, ◌*◌, ◌-◌, ◌<◌, ◌≤◌, List, ◌++◌, length, arith}
+use Rattle.std.proofs.Common.{ℕ, zero, suc, ◌<◌, ◌≤◌, List, ◌++◌, length, arith}
 use Rattle.spec_format.specs.declared.fault.BlobFault.{BlobFault}
-use Rattle.spec_format.specs.Check.{Check, AllHold, FirstFault, each}
-use Rattle.spec_format.specs.Strings.{count_checks, end_before, first_byte, node_count, node_end_checks, node_end_entry, string_checks, string_count, string_end, string_end_checks, string_end_entry, string_list_checks, strings_start}
-use Rattle.snap_blob.specs.Ordered.{AllLie, Lies}
+use Rattle.spec_format.specs.Check.{AllHold, FirstFault, each}
+use Rattle.spec_format.specs.Strings.{count_checks, first_byte, node_count, node_end_checks, node_end_entry, string_checks, string_count, string_end_checks, string_end_entry, string_list_checks, strings_start}
+use Rattle.snap_blob.specs.Ordered.{AllLie}
 use Rattle.spec_format.proofs.Checks.{AllHold-append, FirstFault-left, FirstFault-right, each_at}
 
 -- the string ends that hold stand in the section

@@ -1,2 +1,4 @@
 pub mod Ordered
 pub mod RoStrings
+pub mod Sections
+pub mod Steps

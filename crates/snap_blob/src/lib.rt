@@ -1,10 +1,23 @@
-//! The container of a blob and its list of strings, read in place over borrowed bytes.
+//! The container of a blob and its list of strings, read in place over borrowed bytes and written,
+//! and the startup section.
 #![tactic(auto)]
 
 mod container;
 mod field;
+mod put;
 mod ro_strings;
+mod sealing;
+mod startup_reader;
+mod startups;
+mod strings;
 
 pub use container::{BLOB_LIMIT, Container};
 pub use ro_strings::{RoStrings, node_count};
+pub use sealing::{SealFault, seal};
 pub use spec_format::{BlobFault, BlobKind};
+pub use startup_reader::{Startup, read_startup};
+pub use startups::{ShapeStep, write_startup};
+pub use strings::write_strings;
+
+#[cfg(test)]
+mod tests;

@@ -4,3 +4,4 @@ pub mod Container
 pub mod Strings
 pub mod Varint
 pub mod Laws
+pub mod Startup

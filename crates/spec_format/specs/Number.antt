@@ -22,3 +22,7 @@ spelled32 n = little_bytes 4 n
 abbrev pub ends_from : ℕ → List (List ℕ) → List ℕ
 ends_from start [] = []
 ends_from start (piece ∷ pieces) = (start + length piece) ∷ ends_from (start + length piece) pieces
+
+-- the eight bytes of a number below 2 ^ 64
+unfoldable pub spelled64 : ℕ → List ℕ
+spelled64 n = little_bytes 8 n

@@ -11,4 +11,4 @@ pub use laws::{
     container_is_read, container_is_spelled, one_container_fault, one_string_fault,
     strings_are_read, strings_are_spelled,
 };
-pub use varint_laws::{every_number, one_varint};
+pub use varint_laws::{every_number, one_varint, varint_spells};

@@ -1,6 +1,6 @@
-use Rattle.std.proofs.Common.{◌≡◌, ℕ, zero, suc, ◌-◌, List, ◌<◌, ◌≤◌, ◌+◌, ◌++◌, length, sym, ◌∙◌, subst, ap, ◌*◌, refl, add-one, arith, inl, inr}
+use Rattle.std.proofs.Common.{◌≡◌, ℕ, zero, suc, ◌-◌, List, ◌<◌, ◌+◌, sym, ◌∙◌, subst, ap, ◌*◌, refl, add-one, arith, inl}
 use Rattle.spec_format.specs.declared.fault.BlobKind.TheVariants.{BadSections}
-use Rattle.spec_format.specs.Check.{AllHold, FirstFault, each}
+use Rattle.spec_format.specs.Check.{AllHold, each}
 use Rattle.spec_format.specs.Container.{last_check, section_checks, section_count, section_end, section_start}
 use Rattle.spec_format.proofs.Checks.{AllHold-append, FirstFault-left, FirstFault-right, each_fault, each_more}
 use Rattle.snap_blob.proofs.container.check_ends.Goals as goal

@@ -1,4 +1,4 @@
-use Rattle.std.proofs.Common.{◌<◌, ◌≤◌, add-one, arith}
+use Rattle.std.proofs.Common.{◌<◌, add-one, arith}
 use Rattle.std.proofs.lemmas.Result.{err_from_is_err_and}
 use Rattle.spec_format.specs.Strings.{string_checks, string_count}
 use Rattle.spec_format.proofs.Checks.{each_fault, each_more}

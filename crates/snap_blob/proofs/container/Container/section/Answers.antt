@@ -1,4 +1,4 @@
-use Rattle.std.proofs.Common.{◌≡◌, ◌-◌, ◌<◌, ◌≤◌, ℕ, List, drop, length, length-take, subst, sym, arith}
+use Rattle.std.proofs.Common.{◌≡◌, ◌-◌, ◌<◌, ℕ, List, drop, length-take, subst, sym, arith}
 use Rattle.spec_format.specs.Container.{section_count, section_start}
 use Rattle.spec_format.proofs.Containers.{checked_from}
 use Rattle.snap_blob.proofs.container.Container.section.Goals as goal

@@ -1,4 +1,3 @@
-use Rattle.std.proofs.Common.{◌≤◌, arith}
 use Rattle.std.proofs.lemmas.Result.{err_from_is_err_and}
 use Rattle.spec_format.specs.Strings.{string_count}
 use Rattle.snap_blob.proofs.StringLists.{all_lie, fault_at_node_ends, fault_at_string_ends, fault_at_strings, start_fits, string_ends_fit, whole_list}

@@ -1,0 +1,5 @@
+pub mod Examples
+pub mod Numbers
+pub mod Places
+pub mod Results
+pub mod Sections

@@ -1,0 +1,15 @@
+use Rattle.std.proofs.Common.{arith}
+use Rattle.snap_ctxfmt.proofs.Examples.{ascending_units, unit_among, one_unit_more}
+use Rattle.snap_ctxfmt.proofs.tests.all_strings.Goals as goal
+
+pub loop-unit-preserved : goal.loop-unit-preserved
+loop-unit-preserved c =
+    one_unit_more c.loop-unit.strings.items c.push.new.self.items c.in_ok-of.field-0 c.loop-unit.unit c.loop-unit.invariant c.in_ok-of.ensures c.in_ok-push.ensures.items
+
+pub returns : goal.returns
+returns c =
+    let strings = c.loop-unit.strings.items in
+    record {
+      ascending = ascending_units strings c.loop-unit.unit c.loop-unit.invariant;
+      among = λ unit inside. unit_among strings unit c.loop-unit.unit c.loop-unit.invariant (omega arith);
+    }

@@ -1,0 +1,6 @@
+//! Values and properties of heap graphs.
+#![tactic(auto)]
+
+mod value;
+
+pub use value::{Property, Value};

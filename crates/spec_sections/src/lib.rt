@@ -1,0 +1,6 @@
+//! What the sections of a blob mean as graphs, and the laws of that meaning.
+#![tactic(auto)]
+
+mod laws;
+
+pub use laws::one_global;
