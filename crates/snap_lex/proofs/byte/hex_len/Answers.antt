@@ -1,0 +1,11 @@
+use Rattle.std.proofs.Common.{sym, arith, rules}
+use Rattle.std.proofs.lemmas.List.Sums.{prefix_len_is}
+use Rattle.spec_tokens.specs.Byte.{is_hex}
+use Rattle.snap_lex.proofs.byte.hex_len.Goals as goal
+
+pub returns-then-not-is_hex-clause-value : goal.returns-then-not-is_hex-clause-value
+returns-then-not-is_hex-clause-value c =
+    sym (prefix_len_is is_hex c.args.bytes.now c.loop-i.i 0 (omega arith) c.loop-i.invariant (λ _. search rules))
+
+pub returns-clause-value : goal.returns-clause-value
+returns-clause-value c = sym (prefix_len_is is_hex c.args.bytes.now _ 0 (omega arith) (λ k below. c.loop-i.invariant k (omega arith)) (λ short. absurd (omega arith)))

@@ -1,0 +1,7 @@
+use Rattle.std.proofs.Common.{◌≡◌, ℕ, ◌<◌, get_or, true}
+use Rattle.spec_tokens.specs.Byte.{is_in_line}
+use Rattle.snap_lex.proofs.byte.line_len.Given as goal
+
+-- each byte so far is of the class
+abbrev pub invariant-loop-i : goal.invariant-loop-i
+invariant-loop-i l = (k : ℕ) → k < l.i → is_in_line (get_or l.bytes k 0) ≡ true

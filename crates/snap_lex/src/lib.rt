@@ -1,0 +1,18 @@
+//! The lexer: cuts a script into its tokens.
+#![tactic(auto)]
+
+mod byte;
+mod gaps;
+mod lexer;
+mod marks;
+mod numbers;
+mod pieces;
+#[cfg(test)]
+mod tests;
+mod texts;
+mod words;
+
+pub use lexer::{Token, tokens};
+pub use numbers::number_of;
+pub use spec_tokens::{LexFault, TokenKind};
+pub use texts::text_units;

@@ -1,0 +1,11 @@
+pub mod Numbers
+pub mod Texts
+pub mod Gaps
+pub mod Cuts
+pub mod Runs
+pub mod Classes
+pub mod Pieces
+pub mod Longest
+pub mod Reading
+pub mod Cutting
+pub mod Sound

@@ -1,0 +1,10 @@
+pub mod Byte
+pub mod Word
+pub mod Number
+pub mod Mark
+pub mod Text
+pub mod Gap
+pub mod Piece
+pub mod Tokens
+pub mod Shape
+pub mod Laws
