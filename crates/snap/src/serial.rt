@@ -61,7 +61,14 @@ pub fn snap_serial<F: Files, O: Sink>(
     ensures read { result.fault ≡ Some Fault.Read → HasRisen (F.read_faults files.old) (F.read_faults files.new) }
     ensures write { result.fault ≡ Some Fault.Write → HasRisen (O.faults out.old) (O.faults out.new) }
 
-    // What the sink gets: the line of the fault; a prefix of it where the sink failed; nothing where memory ran out.
+    // Where the words name no job they are refused and the files left alone, whether or not these tell.
+    ensures refused { job_of (bytes_of words.now) ≡ None → Contains (2 ∷ 7 ∷ 9 ∷ []) result.status }
+    ensures unread { job_of (bytes_of words.now) ≡ None → files.new ≡ files.old }
+
+    // What the sink gets: the line of a number where all was done, or that of the fault; a prefix of
+    // the line where the sink failed; nothing where memory ran out.
+    ensures done { result.fault ≡ None
+        → (n : ℕ) × (O.written out.new ≡ appended (O.written out.old) (line_of (job_of (bytes_of words.now)) (Ok n))) }
     ensures line { (f : Fault) → result.fault ≡ Some f → f ≢ Fault.Write
         → O.written out.new ≡ appended (O.written out.old) (line_of (job_of (bytes_of words.now)) (Err f)) }
     ensures prefix { IfSome (F.held files.old) (λ held. (answer : Result ℕ Fault)
@@ -93,6 +100,7 @@ pub fn one_answer()
 fn answer_of<F: Files>(job: Option<&str>, files: &mut F) -> Result<u32, Fault>
     ensures comes { Comes (option_map (λ name. name.now) job.entry) (record { held = F.held files.old; faults_before = F.read_faults files.old; faults_after = F.read_faults files.new }) result }
     ensures held { F.held files.new ≡ F.held files.old }
+    ensures unread { option_map (λ name. name.now) job.entry ≡ None → files.new ≡ files.old }
 {
     let Some(name) = job else {
         return Err(Fault::Words);
