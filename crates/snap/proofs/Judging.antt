@@ -1,5 +1,5 @@
 -- Answers that look at the bytes of a blob.
-use Rattle.std.proofs.Common.{◌≡◌, ℕ, ◌<◌, ◌≤◌, List, Option, Some, None, Result, Ok, Err, length, refl, subst, arith, inl}
+use Rattle.std.proofs.Common.{◌≡◌, ℕ, ◌<◌, List, Option, Some, None, Result, Ok, Err, length, refl, subst, arith, inl}
 use Rattle.std.specs.Prelude.{IfSome}
 use Rattle.spec_format.specs.declared.fault.BlobKind.TheVariants.{TooLong}
 use Rattle.snap_io.specs.Held.{Held, bytes_under}

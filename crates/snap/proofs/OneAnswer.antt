@@ -1,5 +1,5 @@
 -- A blob comes to one answer.
-use Rattle.std.proofs.Common.{◌≡◌, ℕ, List, [], ◌∷◌, Option, Some, None, Result, Ok, Err, ap, refl, sym, ◌∙◌}
+use Rattle.std.proofs.Common.{◌≡◌, ℕ, List, Option, Some, None, Result, Ok, Err, ap, refl, sym, ◌∙◌}
 use Rattle.spec_format.specs.declared.fault.BlobFault.{BlobFault}
 use Rattle.spec_format.specs.Container.{container_checks}
 use Rattle.spec_format.proofs.Checks.{no_fault, one_fault}

@@ -1,5 +1,5 @@
 -- What is printed, and the status that the program ends with.
-use Rattle.std.specs.Prelude.{ℕ, List, [], ◌∷◌, ◌++◌, Option, Some, None, Result, Ok, Err, codes, unwrap_or}
+use Rattle.std.specs.Prelude.{ℕ, List, [], ◌++◌, Option, Some, None, Result, Ok, Err, codes, unwrap_or}
 use Rattle.std.specs.Fmt.{decimal}
 use Rattle.spec_format.specs.declared.fault.BlobKind.{BlobKind}
 use Rattle.spec_format.specs.declared.fault.BlobKind.TheVariants.{TooLong, TooShort, BadMagic, BadVersion, BadLength, BadDigest, BadSections, ExternalMissing, Truncated, BadOp, BadNumber, BadString, BadReference, BadShape, BadTable, BadSource, BadScope, BadRoot, Trailing}

@@ -1,9 +1,11 @@
 -- What `verify` says of the bytes of a blob.
-use Rattle.std.specs.Prelude.{◌≡◌, ◌≢◌, ℕ, ◌≤◌, List, [], ◌∷◌, ◌++◌, ◌⊎◌, Option, Some, None, Result, Ok, Err, length}
+use Rattle.std.specs.Prelude.{◌≡◌, ◌≢◌, ℕ, ◌≤◌, List, [], ◌∷◌, ◌++◌, Option, Some, None, Result, Ok, Err, length}
 use Rattle.spec_format.specs.declared.fault.BlobFault.{BlobFault}
 use Rattle.spec_format.specs.Check.{Check, AllHold, FirstFault}
 use Rattle.spec_format.specs.Container.{container_checks, section, section_count, section_start}
+use Rattle.spec_format.specs.Startup.{startup_bytes}
 use Rattle.spec_format.specs.Strings.{node_count, string_count, string_list_checks, trailing_check}
+use Rattle.spec_sections.specs.Global.{global_section}
 use Rattle.snap_io.specs.Held.{Held, bytes_under}
 use Rattle.snap.specs.declared.fault.Fault.{Fault}
 use Rattle.snap.specs.declared.fault.Fault.TheVariants as fault
@@ -15,11 +17,11 @@ strings_checks bytes =
 
 -- the startup section of a blob without scripts, functions and shapes, under the hash seed 0
 abbrev pub bare_startup : List ℕ
-bare_startup = 0 ∷ 0 ∷ 0 ∷ 0 ∷ 0 ∷ 0 ∷ 0 ∷ 0 ∷ 0 ∷ 0 ∷ 0 ∷ []
+bare_startup = startup_bytes (record { seed = 0; scripts = []; functions = []; shapes = [] })
 
--- the context section of a global object without properties, and nothing else
+-- the context section of a global object without properties, which has shape 0, and nothing else
 abbrev pub bare_context : List ℕ
-bare_context = 0x01 ∷ 0x09 ∷ 0x10 ∷ 0x00 ∷ 0x07 ∷ 0x00 ∷ 0x20 ∷ 0x00 ∷ 0x00 ∷ 0x00 ∷ 0x00 ∷ 0x00 ∷ []
+bare_context = global_section [] 0 []
 
 -- one context, no externals, and no nodes in the read-only section
 pub record IsPlain (bytes : List ℕ) : Type 0 where

@@ -1,9 +1,9 @@
 //! `verify` over the bytes of a blob.
 
-ghost use Rattle.std.specs.Prelude.{◌≡◌, ◌↔◌, ◌++◌, ◌+◌, ◌<◌, ◌^◌, length, IsTrue, IfOk, Ok};
+ghost use Rattle.std.specs.Prelude.{◌≡◌, ◌↔◌, ◌++◌, ◌+◌, ◌<◌, ◌^◌, [], ◌∷◌, length, IsTrue, IfOk, Ok};
 ghost use Rattle.spec_format.specs.Check.{Passes};
 ghost use Rattle.spec_format.specs.Strings.{string_count, string_list_checks, trailing_check};
-ghost use Rattle.snap.specs.Verify.{Verifies};
+ghost use Rattle.snap.specs.Verify.{Verifies, bare_context, bare_startup};
 
 use crate::fault::Fault;
 use snap_blob::{BlobFault, BlobKind, Container, RoStrings, node_count};
@@ -25,7 +25,7 @@ pub(crate) fn verify(bytes: &[u8]) -> Result<u32, Fault>
     if container.sections() != 4 {
         return Err(Fault::NotBuilt);
     }
-    if !same(container.section(0), &[0]) {
+    if !is_without_externals(container.section(0)) {
         return Err(Fault::NotBuilt);
     }
     let section = container.section(1);
@@ -38,10 +38,10 @@ pub(crate) fn verify(bytes: &[u8]) -> Result<u32, Fault>
         Ok(count) => count,
         Err(fault) => return Err(Fault::Blob(fault)),
     };
-    if !same(container.section(2), &BARE_STARTUP) {
+    if !is_bare_startup(container.section(2)) {
         return Err(Fault::NotBuilt);
     }
-    if !same(container.section(3), &BARE_CONTEXT) {
+    if !is_bare_context(container.section(3)) {
         return Err(Fault::NotBuilt);
     }
     Ok(count)
@@ -64,8 +64,23 @@ fn count_strings(section: &[u8], base: u32) -> Result<u32, BlobFault>
     Ok(strings.strings())
 }
 
-fn same(bytes: &[u8], others: &[u8]) -> bool
-    ensures { IsTrue result ↔ (bytes.now ≡ others.now) }
+// Whether the section of the externals names none.
+fn is_without_externals(section: &[u8]) -> bool
+    ensures { IsTrue result ↔ (section.now ≡ 0 ∷ []) }
 {
-    bytes == others
+    section == [0].as_slice()
+}
+
+#[tactic(auto, unfolding(spec_format::specs::Number::spelled64, spec_format::specs::Varint::varint, spec_format::specs::Varint::varint_within))]
+fn is_bare_startup(section: &[u8]) -> bool
+    ensures { IsTrue result ↔ (section.now ≡ bare_startup) }
+{
+    section == BARE_STARTUP.as_slice()
+}
+
+#[tactic(auto, unfolding(spec_format::specs::Varint::varint, spec_format::specs::Varint::varint_within))]
+fn is_bare_context(section: &[u8]) -> bool
+    ensures { IsTrue result ↔ (section.now ≡ bare_context) }
+{
+    section == BARE_CONTEXT.as_slice()
 }
