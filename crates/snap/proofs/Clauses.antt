@@ -1,5 +1,5 @@
 -- What follows for the top call from how an answer comes about and how it is told.
-use Rattle.std.proofs.Common.{◌≡◌, ◌≢◌, ℕ, List, [], ◌∷◌, ◌⊎◌, Option, Some, None, Result, Err, ap, inl, inr, refl, subst, sym, ◌∙◌}
+use Rattle.std.proofs.Common.{◌≡◌, ◌≢◌, ◌<◌, ℕ, List, [], ◌∷◌, ◌⊎◌, Option, Some, None, Result, Err, ap, arith, inl, inr, refl, subst, sym, ◌∙◌}
 use Rattle.std.specs.Prelude.{IfSome}
 use Rattle.std.proofs.lemmas.List.{append-nil}
 use Rattle.snap_io.specs.Counts.{HasRisen}
@@ -71,3 +71,29 @@ pub prefix_defined : (held : Option Held) (job : Option (List ℕ)) (before now 
 prefix_defined None job before now said told sink comes tells = tt
 prefix_defined (Some held) job before now said told sink comes tells =
     λ answer defined steady. prefix_held held job before now said answer told sink comes tells defined steady
+
+-- the sink gets a prefix of the line of what is told
+pub told_in_part : (job : Option (List ℕ)) (said : Result ℕ Fault) (told : Option Fault) (sink : Sunk) → Tells job said told sink → AppendsInPart (line_of job said) sink.before sink.after
+told_in_part job said told sink (Whole is written same) = (line_of job said, ([], append-nil (line_of job said)), written)
+told_in_part job said told sink (InPart is part rose up) = part
+told_in_part job said told sink (telling.Starved is written same) = appends_nothing (line_of job said) sink.before sink.after written
+
+-- without a job that is the line of refused words
+pub refused_in_part : (job : Option (List ℕ)) (files : Asked) (said : Result ℕ Fault) (told : Option Fault) (sink : Sunk) → Comes job files said → Tells job said told sink
+    → job ≡ None → AppendsInPart (line_of job (Err fault.Words)) sink.before sink.after
+refused_in_part job files said told sink (NoJob none is same) tells no_job =
+    subst (λ (a : Result ℕ Fault). AppendsInPart (line_of job a) sink.before sink.after) is (told_in_part job said told sink tells)
+refused_in_part job files said told sink (Judged name some verdict judged same) tells no_job = absurd cc
+refused_in_part job files said told sink (Unread name some is rose up) tells no_job = absurd cc
+refused_in_part job files said told sink (coming.Starved is same) tells no_job =
+    appends_of_nothing (line_of job (Err fault.Words)) sink.before sink.after
+    (subst (λ (a : Result ℕ Fault). AppendsInPart (line_of job a) sink.before sink.after) is (told_in_part job said told sink tells))
+
+-- where the count of reads is greater than before that is the line of a failed read
+pub read_in_part : (job : Option (List ℕ)) (files : Asked) (said : Result ℕ Fault) (told : Option Fault) (sink : Sunk) → Comes job files said → Tells job said told sink
+    → files.faults_before < files.faults_after → AppendsInPart (line_of job (Err fault.Read)) sink.before sink.after
+read_in_part job files said told sink (NoJob none is same) tells more = absurd (omega arith)
+read_in_part job files said told sink (Judged name some verdict judged same) tells more = absurd (omega arith)
+read_in_part job files said told sink (Unread name some is rose up) tells more =
+    subst (λ (a : Result ℕ Fault). AppendsInPart (line_of job a) sink.before sink.after) is (told_in_part job said told sink tells)
+read_in_part job files said told sink (coming.Starved is same) tells more = absurd (omega arith)

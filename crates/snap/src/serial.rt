@@ -76,6 +76,15 @@ pub fn snap_serial<F: Files, O: Sink>(
         → (HasRisen (F.read_faults files.old) (F.read_faults files.new) → ⊥)
         → AppendsInPart (line_of (job_of (bytes_of words.now)) answer) (O.written out.old) (O.written out.new)) }
 
+    // Whatever the files tell and whatever rose, the sink gets a prefix of one line: that of refused
+    // words where they name no job, that of a failed read where the count of reads is greater than before.
+    ensures in_part { (answer : Result ℕ Fault)
+        × AppendsInPart (line_of (job_of (bytes_of words.now)) answer) (O.written out.old) (O.written out.new) }
+    ensures refused_line { job_of (bytes_of words.now) ≡ None
+        → AppendsInPart (line_of (job_of (bytes_of words.now)) (Err Fault.Words)) (O.written out.old) (O.written out.new) }
+    ensures read_line { F.read_faults files.old < F.read_faults files.new
+        → AppendsInPart (line_of (job_of (bytes_of words.now)) (Err Fault.Read)) (O.written out.old) (O.written out.new) }
+
     // Where a count is greater than before, the status says so.
     ensures read_rose { F.read_faults files.old < F.read_faults files.new
         → Contains (6 ∷ 7 ∷ 9 ∷ []) result.status }
