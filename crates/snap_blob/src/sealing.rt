@@ -1,6 +1,6 @@
 //! The container of some sections, written.
 
-ghost use Rattle.std.specs.Prelude.{◌≡◌, ℕ, ◌+◌, ◌*◌, ◌<◌, ◌≤◌, ◌^◌, ◌++◌, length, map, take, drop, IfOk, OnOk, OnErr, IsErrOf};
+ghost use Rattle.std.specs.Prelude.{◌≡◌, ℕ, ◌+◌, ◌*◌, ◌<◌, ◌≤◌, ◌^◌, ◌++◌, length, map, take, drop, IfOk, OnOk, OnErr, IsErrOf, IsOkUnless};
 ghost use Rattle.std.specs.List.{concat, flat_map};
 ghost use Rattle.sha2.specs.Sha256.{sha256};
 ghost use Rattle.spec_format.specs.Container.{container, end_entry, magic, payload};
@@ -29,6 +29,7 @@ pub fn seal(alloc: Global, format: u32, sections: &[Vec<u8>]) -> Result<Vec<u8>,
     ensures ok { IfOk result (λ blob. blob.items ≡ container format (lists_of sections.now)) }
     ensures fits { IfOk result (λ blob. length blob.items ≤ 67108864) }
     ensures too_long { IsErrOf result SealFault.TooLong → 67108864 < length (container format (lists_of sections.now)) }
+    ensures always_too_long { 67108864 < length (container format (lists_of sections.now)) → IsErrOf result SealFault.TooLong }
 {
     let len = blob_length(sections)?;
     match write_blob(alloc, format, len, sections) {
@@ -42,6 +43,7 @@ fn blob_length(sections: &[Vec<u8>]) -> Result<u32, SealFault>
     requires { length sections.now ≤ 19 }
     ensures ok { IfOk result (λ n. (n ≤ 67108864) × (n ≡ sealed_length (lists_of sections.now))) }
     ensures err { OnErr result (67108864 < sealed_length (lists_of sections.now)) }
+    ensures only { IsOkUnless result SealFault.TooLong }
 {
     let mut total = 52 + 4 * sections.len();
     for section in sections {
