@@ -18,9 +18,22 @@ is_printable b = nat_le 32 b && nat_le b 126
 abbrev pub is_name : List ℕ → Bool
 is_name word = nat_le (length word) 16777216 && not (starts_with nat_eq word (codes "--")) && list_all is_printable word
 
--- the name of the blob that the words ask to verify, or none where they ask for nothing that there is
-abbrev pub job_of : List (List ℕ) → Option (List ℕ)
+-- a command, and the file that it works on; a run may have no entry
+pub data Job : Type 0 where
+  Build : (source : List ℕ) → Job
+  Run : (entry : Option (List ℕ)) → Job
+  Verify : (blob : List ℕ) → Job
+
+-- the command of this word, over a file
+abbrev pub job_under : List ℕ → List ℕ → Option Job
+job_under command name =
+    if pointwise nat_eq command (codes "build") then Some (Build name)
+    else (if pointwise nat_eq command (codes "run") then Some (Run (Some name))
+    else (if pointwise nat_eq command (codes "verify") then Some (Verify name) else None))
+
+-- what the words ask for, or none where they ask for nothing that there is
+abbrev pub job_of : List (List ℕ) → Option Job
 job_of [] = None
-job_of (command ∷ []) = None
-job_of (command ∷ name ∷ []) = if pointwise nat_eq command (codes "verify") && is_name name then Some name else None
+job_of (command ∷ []) = if pointwise nat_eq command (codes "run") then Some (Run None) else None
+job_of (command ∷ name ∷ []) = if is_name name then job_under command name else None
 job_of (command ∷ name ∷ more ∷ rest) = None

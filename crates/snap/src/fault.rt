@@ -9,11 +9,13 @@ pub enum Fault {
     Words,
     /// The blob has this fault first.
     Blob(BlobFault),
-    /// The blob has more in it than this program reads.
+    /// The source, the entry or the blob is beyond what this program does.
     NotBuilt,
+    /// There is no entry, and the blob has no main function.
+    NothingToRun,
     /// A read of the files failed.
     Read,
-    /// A write to the sink failed.
+    /// A write of the file, or to the sink, failed.
     Write,
     /// Memory ran out.
     NoMemory,

@@ -1,41 +1,41 @@
 //! The line that tells an answer.
 
-ghost use Rattle.std.specs.Prelude.{◌≡◌, IfOk};
-ghost use Rattle.std.specs.Option.{option_map};
+ghost use Rattle.std.specs.Prelude.{◌≡◌, [], IfOk};
 ghost use Rattle.std.specs.String.{string_bytes};
-ghost use Rattle.snap.specs.Line.{kind_name, line_of, status_of};
+ghost use Rattle.snap.specs.Line.{count_line, fault_line, kind_name, status_of};
 
 use crate::fault::Fault;
 use snap_blob::{BlobFault, BlobKind};
 use std::alloc::{AllocError, Global};
 
-/// The line of an answer to a job, with its line feed; nothing where the answer has no line.
-pub(crate) fn line_of(
-    alloc: Global,
-    job: Option<&str>,
-    answer: Result<u32, Fault>,
-) -> Result<String, AllocError>
-    ensures { IfOk result (λ line. string_bytes line ≡ line_of (option_map (λ name. name.now) job.entry) answer) }
+/// The line of a fault, with its line feed, where `name` is that of the file whose read failed; nothing
+/// where the fault has no line.
+pub(crate) fn fault_line(alloc: Global, name: &str, fault: Fault) -> Result<String, AllocError>
+    ensures { IfOk result (λ line. string_bytes line ≡ fault_line name.now fault) }
 {
-    match answer {
-        Ok(count) => format!(in alloc; "ok {count} strings\n"),
-        Err(Fault::Words) => String::from_str(alloc, "words refused\n"),
-        Err(Fault::Blob(fault)) => refusal(alloc, fault),
-        Err(Fault::NotBuilt) => String::from_str(alloc, "not built\n"),
-        Err(Fault::Read) => {
-            let name = job.unwrap_or("");
-            format!(in alloc; "read failed: {name}\n")
-        }
-        Err(Fault::Write | Fault::NoMemory) => Ok(String::new(alloc)),
+    match fault {
+        Fault::Words => String::from_str(alloc, "words refused\n"),
+        Fault::Blob(fault) => refusal(alloc, fault),
+        Fault::NothingToRun => String::from_str(alloc, "nothing to run\n"),
+        Fault::NotBuilt => String::from_str(alloc, "not built\n"),
+        Fault::Read => format!(in alloc; "read failed: {name}\n"),
+        Fault::Write | Fault::NoMemory => Ok(String::new(alloc)),
     }
 }
 
 fn refusal(alloc: Global, fault: BlobFault) -> Result<String, AllocError>
-    ensures { IfOk result (λ line. string_bytes line ≡ line_of None (Err (Fault.Blob fault))) }
+    ensures { IfOk result (λ line. string_bytes line ≡ fault_line [] (Fault.Blob fault)) }
 {
     let kind = kind_name(fault.kind);
     let at = fault.at;
     format!(in alloc; "blob refused: {kind} at {at}\n")
+}
+
+/// The line of a number of strings.
+pub(crate) fn count_line(alloc: Global, count: u32) -> Result<String, AllocError>
+    ensures { IfOk result (λ line. string_bytes line ≡ count_line count) }
+{
+    format!(in alloc; "ok {count} strings\n")
 }
 
 /// The name of a kind.
@@ -75,6 +75,7 @@ pub(crate) fn status_of(fault: Option<Fault>) -> u8
         Some(Fault::Blob(_)) => 5,
         Some(Fault::Read) => 6,
         Some(Fault::Write) => 7,
+        Some(Fault::NothingToRun) => 8,
         Some(Fault::NoMemory) => 9,
         Some(Fault::NotBuilt) => 11,
     }

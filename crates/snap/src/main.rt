@@ -1,10 +1,27 @@
 //! `snap`: startup snapshots of JavaScript heaps.
 #![tactic(auto)]
 
+mod build;
+mod building;
+mod evaluate;
 mod fault;
+mod judge;
+mod keeping;
+mod kept;
 mod line;
+mod load;
+mod names;
 mod outcome;
+mod own;
+mod parts;
+mod properties;
+mod running;
+mod said;
 mod serial;
+mod shapes;
+mod statement;
+mod strings;
+mod texts;
 mod verify;
 mod words;
 
@@ -15,6 +32,8 @@ use std::process::ExitCode;
 use std::rt::Env;
 use std::{env, io};
 
+#[cfg(test)]
+mod run_tests;
 #[cfg(test)]
 mod tests;
 

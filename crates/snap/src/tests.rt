@@ -13,8 +13,10 @@ use std::alloc::{AllocError, Global};
 use std::process::Abort;
 use std::test::Fail;
 
+mod builds;
+
 /// A blob without a string, as the format's description spells it.
-const BLOB_A: [u8; 100] = [
+pub(crate) const BLOB_A: [u8; 100] = [
     0x53, 0x4E, 0x41, 0x50, 0x42, 0x4C, 0x4F, 0x42, 1, 0, 0, 0, 0x64, 0, 0, 0, 0xD0, 0xD8, 0x6B,
     0x79, 0xFD, 0xB7, 0x4D, 0x53, 0xB7, 0xBE, 0x1D, 0x34, 0xF8, 0x5D, 0xAB, 0xA8, 0xC9, 0xE0, 0x92,
     0xC0, 0xCE, 0x5C, 0xAF, 0x7E, 0xD2, 0x85, 0x8F, 0x11, 0xB3, 0x52, 0xDE, 0x92, 4, 0, 0, 0, 0x45,
@@ -23,20 +25,20 @@ const BLOB_A: [u8; 100] = [
 ];
 
 /// Its sections: the externals, the read-only section, the startup section and one context.
-const EXTERNALS: [u8; 1] = [0];
+pub(crate) const EXTERNALS: [u8; 1] = [0];
 
-const READ_ONLY: [u8; 8] = [0; 8];
+pub(crate) const READ_ONLY: [u8; 8] = [0; 8];
 
-const STARTUP: [u8; 11] = [0; 11];
+pub(crate) const STARTUP: [u8; 11] = [0; 11];
 
-const CONTEXT: [u8; 12] = [1, 9, 0x10, 0, 7, 0, 0x20, 0, 0, 0, 0, 0];
+pub(crate) const CONTEXT: [u8; 12] = [1, 9, 0x10, 0, 7, 0, 0x20, 0, 0, 0, 0, 0];
 
-fn number(n: usize) -> [u8; 4] {
+pub(crate) fn number(n: usize) -> [u8; 4] {
     u32::try_from(n).unwrap_or(u32::MAX).to_le_bytes()
 }
 
 /// The container of some sections.
-fn sealed(alloc: Global, sections: &[&[u8]]) -> Result<Vec<u8>, AllocError> {
+pub(crate) fn sealed(alloc: Global, sections: &[&[u8]]) -> Result<Vec<u8>, AllocError> {
     let mut payload = Vec::new(alloc);
     payload.extend_from_slice(&number(sections.len()))?;
     let mut end = sections.len().saturating_mul(4).saturating_add(52);
@@ -55,7 +57,7 @@ fn sealed(alloc: Global, sections: &[&[u8]]) -> Result<Vec<u8>, AllocError> {
     Ok(blob)
 }
 
-fn words_of(alloc: Global, words: &[&str]) -> Result<Vec<String>, AllocError> {
+pub(crate) fn words_of(alloc: Global, words: &[&str]) -> Result<Vec<String>, AllocError> {
     let mut all = Vec::new(alloc);
     for word in words {
         all.push(String::from_str(alloc, word)?)?;
@@ -73,7 +75,7 @@ fn one_file(alloc: Global, bytes: Vec<u8>) -> Result<Vec<NamedFile>, AllocError>
 }
 
 /// That `verify` prints this line of these bytes, and ends with this status.
-fn prints(
+pub(crate) fn prints(
     rt: &impl Abort,
     alloc: Global,
     bytes: Vec<u8>,
@@ -274,7 +276,7 @@ fn one_byte_too_long(rt: HostRuntime) -> Result<(), Fail> {
     Ok(())
 }
 
-const REFUSED_WORDS: [&[&str]; 8] = [
+const REFUSED_WORDS: [&[&str]; 13] = [
     &[],
     &["verify"],
     &["verify", "A", "A"],
@@ -283,6 +285,11 @@ const REFUSED_WORDS: [&[&str]; 8] = [
     &["verify", "--A"],
     &["verify", "A\n"],
     &["verify", "\u{E4}"],
+    &["build"],
+    &["build", "A", "A"],
+    &["Build", "A"],
+    &["build", "--A"],
+    &["build", "A\n"],
 ];
 
 #[test]
@@ -299,6 +306,7 @@ fn words(rt: HostRuntime) -> Result<(), Fail> {
         };
         assert_eq!(rt; outcome, refused, "{words:?}");
         assert_eq!(rt; out.written(), b"words refused\n".as_slice());
+        assert_eq!(rt; files.held("snapshot.blob"), None);
     }
     Ok(())
 }

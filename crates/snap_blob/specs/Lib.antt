@@ -2,3 +2,5 @@ pub mod Ordered
 pub mod RoStrings
 pub mod Sections
 pub mod Steps
+pub mod OpenShapes
+pub mod Visits

@@ -7,13 +7,17 @@ mod field;
 mod put;
 mod ro_strings;
 mod sealing;
+mod shape_walk;
+mod shapes;
 mod startup_reader;
 mod startups;
 mod strings;
+mod visits;
 
 pub use container::{BLOB_LIMIT, Container};
 pub use ro_strings::{RoStrings, node_count};
 pub use sealing::{SealFault, seal};
+pub use shapes::are_lawful;
 pub use spec_format::{BlobFault, BlobKind};
 pub use startup_reader::{Startup, read_startup};
 pub use startups::{ShapeStep, write_startup};

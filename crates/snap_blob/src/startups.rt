@@ -11,7 +11,7 @@ use snap_base::NoMemory;
 use std::alloc::Global;
 
 /// A shape: the number of its parent, and that of the string that is its key.
-#[derive(Clone, Copy, Debug, PartialEq, Eq)]
+#[derive(Clone, Copy, Debug, PartialEq, Eq, PartialOrd, Ord)]
 pub struct ShapeStep {
     /// The number of its parent.
     pub parent: u32,

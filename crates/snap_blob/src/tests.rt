@@ -3,7 +3,8 @@
 ghost use Rattle.std.specs.Prelude.{◌≡◌, [], ◌∷◌, IfOk};
 
 use crate::{
-    BLOB_LIMIT, Container, SealFault, ShapeStep, read_startup, seal, write_startup, write_strings,
+    BLOB_LIMIT, Container, SealFault, ShapeStep, are_lawful, read_startup, seal, write_startup,
+    write_strings,
 };
 use snap_text::Units;
 use std::alloc::{AllocError, Global};
@@ -135,6 +136,75 @@ fn other_startup_sections_are_refused(rt: HostRuntime) -> Result<(), Fail> {
     for (k, section) in refused.iter().enumerate() {
         assert!(rt; section.len() < 1000);
         assert!(rt; read_startup(rt.alloc(), section)?.is_none(), "section {k}");
+    }
+    Ok(())
+}
+
+/// Shapes, each as its parent and its key, how many strings there are, and whether they are lawful.
+const JUDGED: [(&[(u32, u32)], u32, bool); 16] = [
+    // None, and a chain.
+    (&[], 0, true),
+    (&[(0, 2), (1, 1), (2, 0)], 3, true),
+    // A key stands in the parent, above it, and above it where another branch was gone into before.
+    (&[(0, 0), (1, 0)], 1, false),
+    (&[(0, 0), (1, 1), (2, 0)], 2, false),
+    (&[(0, 0), (1, 1), (1, 2), (3, 0)], 3, false),
+    // A key stands in two branches, in either order.
+    (&[(0, 0), (1, 1), (0, 1), (3, 0)], 2, true),
+    (&[(0, 0), (0, 1), (1, 2), (2, 2)], 3, true),
+    // A parent is the shape itself, or one behind it, or there is none.
+    (&[(1, 0)], 1, false),
+    (&[(2, 0), (0, 1)], 2, false),
+    (&[(7, 0)], 1, false),
+    // A key is no string.
+    (&[(0, 0), (1, 3)], 3, false),
+    (&[(0, 4_294_967_295)], 4_294_967_295, false),
+    // A shape stands twice, at once and behind another.
+    (&[(0, 0), (0, 0)], 1, false),
+    (&[(0, 0), (0, 1), (1, 1), (0, 0)], 2, false),
+    // Two chains whose numbers take turns; in the second the last key stands in its own chain.
+    (&[(0, 0), (0, 1), (1, 2), (2, 2), (3, 1), (4, 0)], 3, true),
+    (&[(0, 0), (0, 1), (1, 2), (2, 2), (3, 1), (4, 1)], 3, false),
+];
+
+#[test]
+fn shapes_are_judged(rt: HostRuntime) -> Result<(), Fail> {
+    let alloc = rt.alloc();
+    for (row, (pairs, strings, expected)) in JUDGED.iter().enumerate() {
+        let mut shapes = Vec::new(alloc);
+        for (parent, name) in pairs.iter() {
+            shapes.push(ShapeStep {
+                parent: *parent,
+                name: *name,
+            })?;
+        }
+        assert!(rt; shapes.len() < 10);
+        let judged = are_lawful(alloc, shapes.as_slice(), *strings);
+        assert_eq!(rt; judged, Ok(*expected), "row {row}");
+    }
+    Ok(())
+}
+
+/// Many shapes as one chain, a star, a comb, two chains whose numbers take turns, and a deep tree of many
+/// branches: were each key sought by a walk up from its shape, this would not end in time.
+#[test]
+fn many_shapes_are_judged(rt: HostRuntime) -> Result<(), Fail> {
+    let alloc = rt.alloc();
+    for form in 0..5 {
+        let mut shapes = Vec::new(alloc);
+        for n in 0..300_000u32 {
+            let parent = match form {
+                0 => n,
+                1 => 0,
+                2 if n % 2 == 1 => n,
+                4 => n - (n.wrapping_mul(2_654_435_761) >> 29).min(n),
+                _ => n.max(1) - 1,
+            };
+            shapes.push(ShapeStep { parent, name: n })?;
+        }
+        assert!(rt; shapes.len() == 300_000);
+        let judged = are_lawful(alloc, shapes.as_slice(), 300_000);
+        assert_eq!(rt; judged, Ok(true), "form {form}");
     }
     Ok(())
 }

@@ -1,5 +1,9 @@
 pub mod Examples
+pub mod Fronts
+pub mod Keys
 pub mod Numbers
 pub mod Places
+pub mod Properties
 pub mod Results
 pub mod Sections
+pub mod Three

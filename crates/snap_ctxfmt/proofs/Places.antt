@@ -1,9 +1,9 @@
 -- Strings that ascend, and the place of a text among them.
-use Rattle.std.proofs.Common.{◌≡◌, ℕ, zero, suc, ◌+◌, ◌<◌, ◌≤◌, Bool, List, [], ◌∷◌, length, get_or, Some, None, Result, Ok, Err, Contains, position, sym, refl, ap, subst, ◌∙◌, ⊎_elim, arith}
+use Rattle.std.proofs.Common.{◌≡◌, ℕ, zero, suc, ◌+◌, ◌<◌, ◌≤◌, Bool, List, [], ◌∷◌, ◌++◌, length, get_or, Option, Some, None, Result, Ok, Err, Contains, position, sym, refl, ap, subst, ◌∙◌, ⊎_elim, arith}
 use Rattle.std.specs.Cmp.Lexicographic.{slice_cmp}
 use Rattle.std.specs.List.{HoldsAt, position_or_len}
 use Rattle.std.specs.List.Sorted.{IsBinarySearchResult, IsSearchInRange, IsSortedBy}
-use Rattle.std.specs.Option.{IsSome}
+use Rattle.std.specs.Option.{IsSome, unwrap_or}
 use Rattle.std.specs.Ordering.{nat_cmp, is_lt, is_eq, ordering_reverse}
 use Rattle.std.specs.Result.{result_ok}
 use Rattle.std.specs.Str.{bytes_eq}
@@ -11,12 +11,18 @@ use Rattle.std.specs.declared.cmp.Ordering.{Ordering}
 use Rattle.std.specs.declared.cmp.Ordering.TheVariants.{Less, Equal, Greater}
 use Rattle.std.proofs.lemmas.Bool.{lt-ltb, le-ltb, cases_lt}
 use Rattle.std.proofs.lemmas.Cmp.{nat_list_cmp_total}
+use Rattle.std.proofs.lemmas.List.{get_or_default}
 use Rattle.std.proofs.lemmas.List.Sorted.{searchable_from_sorted}
 use Rattle.std.proofs.lemmas.List.Sums.{position_or_len_is}
 use Rattle.std.proofs.lemmas.Map.Lookups.{exact_bytes}
 use Rattle.std.proofs.lemmas.Map.Text.{is_eq-slice_cmp}
 use Rattle.spec_format.specs.Strings.{IsBelow, IsAscending}
-use Rattle.spec_sections.proofs.Texts.{place_inside}
+use Rattle.spec_format.specs.Varint.{varint}
+use Rattle.snap_graph.specs.declared.value.Value.TheVariants.{Text}
+use Rattle.std.proofs.lemmas.Slice.Eq.{bytes_eq-Decides}
+use Rattle.spec_sections.specs.Global.{text_number}
+use Rattle.snap_ctxfmt.specs.Reading.{Spell}
+use Rattle.spec_sections.proofs.Texts.{number_is, place_inside}
 
 -- the first string is below each one behind it
 below_first : (s : List ℕ) (rest : List (List ℕ)) (k : ℕ) (d : List ℕ) → IsAscending (s ∷ rest) → k < length rest → IsBelow s (get_or rest k d)
@@ -88,3 +94,31 @@ searched strings text (Err i) up inside apart =
 pub placed : (strings : List (List ℕ)) (text : List ℕ) → Contains strings text → IsSome (position (bytes_eq text) strings)
 placed strings text among =
     rw (position_inside (bytes_eq text) strings (position_or_len (bytes_eq text) strings) refl (place_inside strings text among)) refl
+
+-- each string's number is its place
+pub number_of_place : (strings : List (List ℕ)) (i : ℕ) → IsAscending strings → i < length strings → text_number strings (get_or strings i []) ≡ i
+number_of_place strings i up inside =
+    let text = get_or strings i [] in
+    let first =
+    position_or_len_is (bytes_eq text) strings i [] (omega arith)
+    (λ k before. same_by_order text (get_or strings k []) Less (below_behind strings k i [] up before inside))
+    (λ _. (bytes_eq-Decides text text).1 refl) in
+    ap (λ (o : Option ℕ). unwrap_or o 0) (position_inside (bytes_eq text) strings i first inside)
+
+-- the number of a text among the strings is below theirs
+pub number_within : (strings : List (List ℕ)) (text : List ℕ) → Contains strings text → text_number strings text < length strings
+number_within strings text among =
+    let inside = place_inside strings text among in
+    omega (arith, inside, number_is strings text inside)
+
+-- a string of a place is one of the strings
+pub among_strings : (strings : List (List ℕ)) (i : ℕ) → i < length strings → Contains strings (get_or strings i [])
+among_strings strings i inside = (i, inside, get_or_default strings i (get_or strings i []) [] inside)
+
+-- the number of a string spells it
+pub text_spells : (strings : List (List ℕ)) (text : List ℕ) (number : ℕ) (left rest : List ℕ) → IsAscending strings → number < length strings → text ≡ get_or strings number []
+    → left ≡ varint number ++ rest → Spell strings (6 ∷ left) (Text text) rest
+text_spells strings text number left rest up inside here e =
+    let P : List ℕ → Type 0 = λ t. Spell strings (6 ∷ left) (Text t) rest in
+    let spelled = e ∙ ap (λ (k : ℕ). varint k ++ rest) (sym (number_of_place strings number up inside)) in
+    subst P (sym here) (among_strings strings number inside, ap (λ (w : List ℕ). 6 ∷ w) spelled)

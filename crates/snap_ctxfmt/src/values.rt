@@ -6,32 +6,14 @@ ghost use Rattle.spec_format.specs.Varint.{varint};
 ghost use Rattle.spec_sections.specs.Global.{zigzag, value_bytes};
 ghost use Rattle.spec_sections.specs.Texts.{HasText};
 
+use crate::layout::{
+    EMPTY, FALSE, GLOBAL_NODE, INTEGER, NULL, PRIVATE_NODE, READ_ONLY_NODE, TEXT, TRUE, UNDEFINED,
+};
 use crate::texts::text_number;
 use snap_base::NoMemory;
 use snap_bytes::put_varint;
 use snap_graph::Value;
 use snap_text::Units;
-
-const UNDEFINED: u8 = 0x00;
-
-const NULL: u8 = 0x01;
-
-const FALSE: u8 = 0x02;
-
-const TRUE: u8 = 0x03;
-
-const EMPTY: u8 = 0x04;
-
-const INTEGER: u8 = 0x05;
-
-const TEXT: u8 = 0x06;
-
-const READ_ONLY_NODE: u8 = 0x07;
-
-const PRIVATE_NODE: u8 = 0x08;
-
-/// The number of the global object, which stands behind the intrinsics.
-const GLOBAL_NODE: u32 = 62;
 
 /// An integer as a number that is small where the integer is near 0: n from 0 on becomes 2n, and n
 /// below 0 becomes -2n - 1.

@@ -6,18 +6,12 @@ ghost use Rattle.spec_format.specs.Strings.{IsAscending};
 ghost use Rattle.spec_sections.specs.Global.{value_bytes, global_section};
 ghost use Rattle.spec_sections.specs.Texts.{HasText};
 
+use crate::layout::{END, HEAD};
 use crate::values::{put_bytes, put_number, put_value};
 use snap_base::NoMemory;
 use snap_graph::Property;
 use snap_text::Units;
 use std::alloc::Global;
-
-/// One private node, brought in as the global object: a plain object that is not frozen, whose
-/// prototype is the read-only node 0, and whose properties have a shape.
-const HEAD: [u8; 7] = [0x01, 0x09, 0x10, 0x00, 0x07, 0x00, 0x20];
-
-/// No elements, no callbacks and no main function.
-const END: [u8; 4] = [0x00, 0x00, 0x00, 0x00];
 
 /// The context section of a global object with these properties, whose shape has the number of the
 /// properties, or want of memory.

@@ -12,7 +12,9 @@ mod tests;
 mod texts;
 mod words;
 
+pub use byte::{is_part, is_start};
 pub use lexer::{Token, tokens};
-pub use numbers::number_of;
+pub use numbers::{number_of, safe_number};
 pub use spec_tokens::{LexFault, TokenKind};
 pub use texts::text_units;
+pub use words::is_reserved;

@@ -4,3 +4,5 @@ pub mod Pieces
 pub mod StringLists
 pub mod Containers
 pub mod Spellings
+pub mod Shapes
+pub mod Chains

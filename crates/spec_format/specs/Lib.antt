@@ -5,3 +5,4 @@ pub mod Strings
 pub mod Varint
 pub mod Laws
 pub mod Startup
+pub mod Shapes

@@ -3,12 +3,16 @@
 #![tactic(auto)]
 
 mod fault;
+mod key_laws;
 mod laws;
+mod shape_laws;
 mod varint_laws;
 
 pub use fault::{BlobFault, BlobKind};
+pub use key_laws::one_key_list;
 pub use laws::{
     container_is_read, container_is_spelled, one_container_fault, one_string_fault,
     strings_are_read, strings_are_spelled,
 };
+pub use shape_laws::chain_is_lawful;
 pub use varint_laws::{every_number, one_varint, varint_spells};

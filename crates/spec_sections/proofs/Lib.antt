@@ -2,3 +2,4 @@ pub mod Sections
 pub mod Texts
 pub mod Values
 pub mod Varints
+pub mod Properties

@@ -20,7 +20,7 @@ place_inside strings text among =
     (cases_lt (position_or_len p strings) (length strings))
 
 -- the text's number is that place
-number_is : (strings : List (List ℕ)) (text : List ℕ) → position_or_len (bytes_eq text) strings < length strings → text_number strings text ≡ position_or_len (bytes_eq text) strings
+pub number_is : (strings : List (List ℕ)) (text : List ℕ) → position_or_len (bytes_eq text) strings < length strings → text_number strings text ≡ position_or_len (bytes_eq text) strings
 number_is strings text inside = rw (lt-ltb (position_or_len (bytes_eq text) strings) (length strings) inside) refl
 
 -- the string of a text's number is the text

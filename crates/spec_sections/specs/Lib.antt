@@ -1,2 +1,3 @@
 pub mod Global
 pub mod Texts
+pub mod Properties

@@ -3,4 +3,4 @@
 
 mod laws;
 
-pub use laws::one_global;
+pub use laws::{one_global, one_property_list};

@@ -9,3 +9,4 @@ pub mod Longest
 pub mod Reading
 pub mod Cutting
 pub mod Sound
+pub mod Lengths

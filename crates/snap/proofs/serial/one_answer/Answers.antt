@@ -1,4 +1,4 @@
-use Rattle.snap.proofs.OneAnswer.{one_answer_lem}
+use Rattle.snap.proofs.OneCommand.{one_answer_lem}
 use Rattle.snap.proofs.serial.one_answer.Goals as goal
 
 pub returns : goal.returns

@@ -1,6 +1,11 @@
-use Rattle.std.proofs.Common.{arith}
+use Rattle.std.proofs.Common.{ℕ, List, [], ◌∷◌, length, ap, arith}
+use Rattle.std.proofs.lemmas.List.FromFn.{length-map-range_with_len}
 use Rattle.snap_ctxfmt.proofs.Examples.{ascending_units, unit_among, one_unit_more}
 use Rattle.snap_ctxfmt.proofs.tests.all_strings.Goals as goal
+
+-- the text of one unit
+abbrev one_unit : ℕ → List ℕ
+one_unit unit = unit ∷ []
 
 pub loop-unit-preserved : goal.loop-unit-preserved
 loop-unit-preserved c =
@@ -12,4 +17,5 @@ returns c =
     record {
       ascending = ascending_units strings c.loop-unit.unit c.loop-unit.invariant;
       among = λ unit inside. unit_among strings unit c.loop-unit.unit c.loop-unit.invariant (omega arith);
+      count = omega (arith, ap length c.loop-unit.invariant, length-map-range_with_len one_unit 0 c.loop-unit.unit);
     }

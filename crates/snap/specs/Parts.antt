@@ -1,0 +1,38 @@
+-- The parts of a blob that has strings, a startup section and one context, and nothing else.
+use Rattle.std.specs.Prelude.{◌≡◌, ◌≢◌, ℕ, ◌≤◌, List, [], ◌∷◌, length}
+use Rattle.spec_format.specs.Check.{AllHold}
+use Rattle.spec_format.specs.Container.{container_checks, section, section_count}
+use Rattle.spec_format.specs.Strings.{AreStrings, node_count, strings_of}
+use Rattle.snap_blob.specs.RoStrings.{section_of}
+use Rattle.snap.specs.declared.fault.Fault.{Fault}
+use Rattle.snap.specs.declared.fault.Fault.TheVariants as fault
+use Rattle.snap.specs.declared.parts.Parts.{Parts}
+use Rattle.snap.specs.Plain.{IsPlain, IsRefused, strings_checks}
+
+-- the blob has no fault down to its strings, and these parts
+pub record HasParts (bytes : List ℕ) (parts : Parts) : Type 0 where
+  pub container : AllHold (container_checks bytes)
+  pub plain : IsPlain bytes
+  pub strings_hold : AllHold (strings_checks bytes)
+  pub strings : section_of parts.strings ≡ section bytes 1
+  pub lawful : AreStrings (strings_of (section bytes 1))
+  pub startup : parts.startup.now ≡ section bytes 2
+  pub startup_short : length parts.startup.now ≤ 67108864
+  pub context : parts.context.now ≡ section bytes 3
+  pub context_short : length parts.context.now ≤ 67108864
+
+-- a container without a fault has other sections than those, externals or nodes
+pub data HasOthers (bytes : List ℕ) : Type 0 where
+  Sections : AllHold (container_checks bytes) → section_count bytes ≢ 4 → HasOthers bytes
+  Externals : AllHold (container_checks bytes) → section bytes 0 ≢ 0 ∷ [] → HasOthers bytes
+  Nodes : AllHold (container_checks bytes) → 8 ≤ length (section bytes 1) → node_count (section bytes 1) ≢ 0 → HasOthers bytes
+
+-- why a blob has not these parts
+abbrev pub HasNoParts : List ℕ → Fault → Type 0
+HasNoParts bytes (fault.Blob f) = IsRefused bytes f
+HasNoParts bytes fault.NotBuilt = HasOthers bytes
+HasNoParts bytes fault.Words = ⊥
+HasNoParts bytes fault.Read = ⊥
+HasNoParts bytes fault.NothingToRun = ⊥
+HasNoParts bytes fault.Write = ⊥
+HasNoParts bytes fault.NoMemory = ⊥
