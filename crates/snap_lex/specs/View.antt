@@ -1,6 +1,7 @@
 -- Tokens as lexemes, which hold no pointers.
-use Rattle.std.specs.Prelude.{◌≡◌, ℕ, List, map, Result, Ok, Err, Vec}
+use Rattle.std.specs.Prelude.{◌≡◌, ◌⊎◌, ℕ, List, map, Result, Ok, Err, Vec}
 use Rattle.std.specs.declared.alloc.Global.{Global}
+use Rattle.spec_tokens.specs.Faults.{HasFault}
 use Rattle.spec_tokens.specs.Tokens.{Lexeme, lexemes}
 use Rattle.spec_tokens.specs.declared.fault.LexFault.{LexFault}
 use Rattle.spec_tokens.specs.declared.fault.LexFault.TheVariants.{NoMemory}
@@ -23,3 +24,13 @@ Cuts (Err fault) source = lexemes source ≡ Err fault
 abbrev pub GivesTokens : Result (Vec Token Global) LexFault → List Lexeme → Type 0
 GivesTokens (Ok found) list = views found.items ≡ list
 GivesTokens (Err fault) list = fault ≡ NoMemory
+
+-- a fault that is answered is one of the source in the language's own words, but for want of memory
+abbrev pub IsFaultOf : List ℕ → LexFault → Type 0
+IsFaultOf source NoMemory = Unit {0}
+IsFaultOf source fault = HasFault source fault
+
+-- the lexer answers this fault, or that memory ran out
+abbrev pub GivesFault : Result (Vec Token Global) LexFault → LexFault → Type 0
+GivesFault (Ok found) fault = ⊥
+GivesFault (Err found) fault = (found ≡ fault) ⊎ (found ≡ NoMemory)

@@ -1,7 +1,8 @@
 //! The tokens of a source.
 
 ghost use Rattle.std.specs.Prelude.{◌≡◌, List, ◌+◌, ◌^◌, ◌<◌, ◌≤◌, ◌++◌, length, IfOk, IfErr};
-ghost use Rattle.snap_lex.specs.View.{views, Cuts, GivesTokens};
+ghost use Rattle.snap_lex.specs.View.{views, Cuts, GivesFault, GivesTokens, IsFaultOf};
+ghost use Rattle.spec_tokens.specs.Faults.{HasFault};
 ghost use Rattle.spec_tokens.specs.Laws.{AreTokens};
 ghost use Rattle.spec_tokens.specs.Tokens.{Lexeme, lexemes_of, newline_behind};
 
@@ -72,8 +73,7 @@ fn read<'a>(alloc: Global, source: &'a [u8]) -> Result<Vec<Token<'a>>, LexFault>
     Ok(list)
 }
 
-/// The tokens of a source, in order. A fault other than `NoMemory` comes only where the source has
-/// none: `exact` says which it is, and where.
+/// The tokens of a source, in order, or its fault with the place.
 pub fn tokens<'a>(alloc: Global, source: &'a [u8]) -> Result<Vec<Token<'a>>, LexFault>
     requires { length source.now ≤ 1048576 }
     ensures exact { Cuts result source.now }
@@ -81,6 +81,10 @@ pub fn tokens<'a>(alloc: Global, source: &'a [u8]) -> Result<Vec<Token<'a>>, Lex
     // What is answered are the tokens of the source, and these are answered unless memory runs out.
     ensures found { IfOk result (λ list. AreTokens source.now (views list.items)) }
     ensures only { (list : List Lexeme) → AreTokens source.now list → GivesTokens result list }
+
+    // The same of the source's fault.
+    ensures refused { IfErr result (λ fault. IsFaultOf source.now fault) }
+    ensures told { (fault : LexFault) → HasFault source.now fault → GivesFault result fault }
 {
     read(alloc, source)
 }

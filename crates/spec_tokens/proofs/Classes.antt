@@ -1,7 +1,7 @@
 -- Classes of bytes that exclude each other.
 use Rattle.std.proofs.Common.{◌≡◌, ◌==◌, ◌||◌, ℕ, true, false, eqb, refl, arith}
 use Rattle.std.proofs.lemmas.Bool.Decides.{nat_tests}
-use Rattle.spec_tokens.specs.Byte.{is_blank, is_digit, is_hex, is_line_end, is_part, is_quote, is_start}
+use Rattle.spec_tokens.specs.Byte.{is_blank, is_digit, is_hex, is_in_line, is_line_end, is_part, is_quote, is_source, is_start}
 use Rattle.spec_tokens.specs.Shape.{is_tail}
 
 pub record IsStartByte (b : ℕ) : Type 0 where
@@ -50,3 +50,22 @@ tail_excludes b e = record { hex = grind (arith, nat_tests); digit = grind (arit
 pub start_is_part : (b : ℕ) → is_start b ≡ true → is_part b ≡ true
 unfolding is_part
 start_is_part b e = rw e refl
+
+pub record IsLineEndByte (b : ℕ) : Type 0 where
+  pub backslash : b == 92 ≡ false
+  pub quote : is_quote b ≡ false
+
+pub line_end_excludes : (b : ℕ) → is_line_end b ≡ true → IsLineEndByte b
+unfolding is_line_end is_quote
+line_end_excludes b e = record { backslash = grind (arith, nat_tests); quote = grind (arith, nat_tests) }
+
+pub record IsNoSourceByte (b : ℕ) : Type 0 where
+  pub backslash : b == 92 ≡ false
+  pub quote : is_quote b ≡ false
+  pub line_end : is_line_end b ≡ false
+  pub in_line : is_in_line b ≡ false
+  pub star : eqb 42 b ≡ false
+
+pub no_source_excludes : (b : ℕ) → is_source b ≡ false → IsNoSourceByte b
+unfolding is_source is_in_line is_line_end is_quote
+no_source_excludes b e = record { backslash = grind (arith, nat_tests); quote = grind (arith, nat_tests); line_end = grind (arith, nat_tests); in_line = grind (arith, nat_tests); star = grind (arith, nat_tests) }

@@ -52,7 +52,7 @@ ok_is x y e = cc
 ok_nat : (x y : ℕ) → is_ok_nat x ≡ Ok y → x ≡ y
 ok_nat x y e = cc
 
-some_is : (x y : Escape) → Some x ≡ Some y → x ≡ y
+pub some_is : (x y : Escape) → Some x ≡ Some y → x ≡ y
 some_is x y e = cc
 
 -- a piece of one byte
@@ -122,7 +122,7 @@ decimal_front b bytes digit other =
     let len : prefix_len is_digit (b ∷ bytes) ≡ suc (prefix_len is_digit bytes) = rw digit (omega arith) in
     rw len (digit, inr (other, prefix_len-all is_digit bytes))
 
-number_front : (b : ℕ) (bytes : List ℕ) → is_digit b ≡ true → (IsHexadecimal (take (number_len (b ∷ bytes)) (b ∷ bytes)) ⊎ IsDecimal (take (number_len (b ∷ bytes)) (b ∷ bytes))) × (number_len (b ∷ bytes) ≤ length (b ∷ bytes))
+pub number_front : (b : ℕ) (bytes : List ℕ) → is_digit b ≡ true → (IsHexadecimal (take (number_len (b ∷ bytes)) (b ∷ bytes)) ⊎ IsDecimal (take (number_len (b ∷ bytes)) (b ∷ bytes))) × (number_len (b ∷ bytes) ≤ length (b ∷ bytes))
 unfolding number_len is_zero_first
 number_front b bytes digit =
     ⊎_elim
@@ -173,7 +173,7 @@ record IsBody (bytes : List ℕ) (at end : ℕ) : Type 0 where
   end_is : end ≡ at + length body
   is : IsCommentBody body
 
-two_front : (x y : ℕ) (bytes : List ℕ) → starts_with nat_eq bytes (x ∷ y ∷ []) ≡ true → (rest : List ℕ) × (bytes ≡ x ∷ y ∷ rest)
+pub two_front : (x y : ℕ) (bytes : List ℕ) → starts_with nat_eq bytes (x ∷ y ∷ []) ≡ true → (rest : List ℕ) × (bytes ≡ x ∷ y ∷ rest)
 two_front x y [] e = absurd (false≢true e)
 two_front x y (a ∷ []) e = let parts = and_parts (eqb x a) false e in absurd (false≢true parts.1)
 two_front x y (a ∷ b ∷ rest) e =
@@ -276,10 +276,10 @@ escape_fits [] found e = cc
 escape_fits (b ∷ bytes) found e = hex_or_other b bytes (b == 120) (b == 117) (b == 48 && not (is_digit_first bytes)) (is_digit b || not (is_printable b)) found e
 
 -- an item at the front
-record IsItemFront (quote : ℕ) (bytes : List ℕ) (len : ℕ) : Type 0 where
-  some : 0 < len
-  fits : len ≤ length bytes
-  is : IsItem quote (take len bytes) (drop len bytes)
+pub record IsItemFront (quote : ℕ) (bytes : List ℕ) (len : ℕ) : Type 0 where
+  pub some : 0 < len
+  pub fits : len ≤ length bytes
+  pub is : IsItem quote (take len bytes) (drop len bytes)
 
 escape_item : (quote at : ℕ) (bytes : List ℕ) (len : ℕ) (o : Option Escape) → 92 == quote ≡ false → escape bytes ≡ o → escape_len at o ≡ Ok len → IsItemFront quote (92 ∷ bytes) len
 escape_item quote at bytes len None other read e = cc
@@ -291,7 +291,7 @@ escape_item quote at bytes len (Some found) other read e =
     let again : escape (take found.len bytes ++ drop found.len bytes) ≡ Some (record { unit = found.unit; len = length (take found.len bytes) }) = ap escape (take-append-drop found.len bytes) ∙ read ∙ rw text_len refl in
     rw len_is (record { some = omega arith; fits = omega (arith, fits); is = (other, inr (refl, found.unit, again)) })
 
-item_cut : (quote start at len b : ℕ) (bytes : List ℕ) → b == quote ≡ false → item_len start at (b ∷ bytes) ≡ Ok len → IsItemFront quote (b ∷ bytes) len
+pub item_cut : (quote start at len b : ℕ) (bytes : List ℕ) → b == quote ≡ false → item_len start at (b ∷ bytes) ≡ Ok len → IsItemFront quote (b ∷ bytes) len
 unfolding item_len
 item_cut quote start at len b bytes other e =
     ⊎_elim

@@ -10,3 +10,6 @@ pub mod Reading
 pub mod Cutting
 pub mod Sound
 pub mod Lengths
+pub mod Faults
+pub mod Lacking
+pub mod Units

@@ -41,6 +41,18 @@ mark_begins text e = listed begins_mark text marks refl e
 pub no_empty_mark : is_mark [] ≡ true → ⊥
 no_empty_mark e = false≢true (mark_begins [] e)
 
+-- the first byte of a mark is a mark
+abbrev is_mark_first : List ℕ → Bool
+is_mark_first text = is_mark (take 1 text)
+
+pub mark_first : (b : ℕ) (bytes : List ℕ) → is_mark (b ∷ bytes) ≡ true → is_mark (b ∷ []) ≡ true
+unfolding is_mark
+mark_first b bytes e = listed is_mark_first (b ∷ bytes) marks refl e
+
+pub slash_is_mark : is_mark (47 ∷ []) ≡ true
+unfolding is_mark
+slash_is_mark = refl
+
 -- a longer front is the text again, or no mark
 longer_front : (text rest : List ℕ) (n : ℕ) → IsMark text rest → (text ++ take n rest ≡ text) ⊎ (is_mark (text ++ take n rest) ≡ false)
 longer_front text [] zero is = inl (append-nil text)

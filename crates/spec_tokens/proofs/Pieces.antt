@@ -12,7 +12,7 @@ use Rattle.spec_tokens.specs.Gap.{block_comment, comment_end, comment_kind, line
 use Rattle.spec_tokens.specs.Number.{is_hexadecimal, is_number_tail, is_zero_first, largest, number, number_len, number_value}
 use Rattle.spec_tokens.specs.Piece.{piece, plain_piece, text, word}
 use Rattle.spec_tokens.specs.Shape.{AllAre, AreItems, IsCommentBody, IsDecimal, IsHexadecimal, IsItem, IsNumber, Stops, is_tail, joined}
-use Rattle.spec_tokens.specs.Text.{escape, item_len, text_end}
+use Rattle.spec_tokens.specs.Text.{◌>>=◌, escape, item_len, text_end}
 use Rattle.spec_tokens.specs.Word.{word_kind}
 use Rattle.spec_tokens.specs.declared.piece.PieceKind.TheVariants.{Blank, LineEnd, Token}
 use Rattle.spec_tokens.specs.declared.piece.TokenKind.TheVariants.{Number, Text}
@@ -48,7 +48,7 @@ unfolding is_number_tail
 no_tail [] stops = refl
 no_tail (b ∷ rest) stops = stops
 
-not_zero_first : (d : ℕ) (more : List ℕ) → d == 48 ≡ false → is_hexadecimal (d ∷ more) ≡ false
+pub not_zero_first : (d : ℕ) (more : List ℕ) → d == 48 ≡ false → is_hexadecimal (d ∷ more) ≡ false
 unfolding is_hexadecimal
 not_zero_first d [] other = refl
 not_zero_first d (x ∷ []) other = refl
@@ -114,18 +114,30 @@ item_len_is quote start at (b ∷ bytes) behind is =
     (λ (escaped : (b ≡ 92) × (unit : ℕ) × (escape (bytes ++ behind) ≡ Some (record { unit = unit; len = length bytes }))). rw (escaped.0, escaped.2) (ap Ok (omega arith)))
     is.1
 
-text_end-items : (quote start at : ℕ) (items : List (List ℕ)) (rest : List ℕ) → AreItems quote items (quote ∷ rest) → text_end quote start 0 at (joined items ++ quote ∷ rest) ≡ Ok (at + length (joined items) + 1)
-text_end-items quote start at [] rest are = text_end-quote quote start at (quote ∷ rest) (omega arith) refl ∙ ap Ok (omega arith)
-text_end-items quote start at ([] ∷ items) rest are = absurd are.0
-text_end-items quote start at ((b ∷ bytes) ∷ items) rest are =
-    let behind = joined items ++ quote ∷ rest in
+-- items are passed
+pub text_end-passes : (quote start at : ℕ) (items : List (List ℕ)) (rest : List ℕ) → AreItems quote items rest → text_end quote start 0 at (joined items ++ rest) ≡ text_end quote start 0 (at + length (joined items)) rest
+text_end-passes quote start at [] rest are = ap (λ n. text_end quote start 0 n rest) (omega arith)
+text_end-passes quote start at ([] ∷ items) rest are = absurd are.0
+text_end-passes quote start at ((b ∷ bytes) ∷ items) rest are =
+    let behind = joined items ++ rest in
     let len = item_len_is quote start at (b ∷ bytes) behind are.0 in
     let other : b ≡ quote → ⊥ = λ same. false≢true (sym are.0.0 ∙ eq-eqb b quote same) in
     let step = text_end-item quote start at (length (b ∷ bytes)) (b ∷ bytes ++ behind) (omega arith) other (omega arith) len in
-    let more = text_end-items quote start (at + length (b ∷ bytes)) items rest are.1 in
+    let more = text_end-passes quote start (at + length (b ∷ bytes)) items rest are.1 in
     let front_len = length-append bytes (joined items) in
-    ap (text_end quote start 0 at) (append_assoc (b ∷ bytes) (joined items) (quote ∷ rest)) ∙ step
-    ∙ ap (text_end quote start 0 (at + length (b ∷ bytes))) (drop_at (b ∷ bytes) behind (length (b ∷ bytes)) refl) ∙ more ∙ ap Ok (omega (arith, front_len))
+    ap (text_end quote start 0 at) (append_assoc (b ∷ bytes) (joined items) rest) ∙ step
+    ∙ ap (text_end quote start 0 (at + length (b ∷ bytes))) (drop_at (b ∷ bytes) behind (length (b ∷ bytes)) refl) ∙ more ∙ ap (λ n. text_end quote start 0 n rest) (omega (arith, front_len))
+
+text_end-items : (quote start at : ℕ) (items : List (List ℕ)) (rest : List ℕ) → AreItems quote items (quote ∷ rest) → text_end quote start 0 at (joined items ++ quote ∷ rest) ≡ Ok (at + length (joined items) + 1)
+text_end-items quote start at items rest are =
+    text_end-passes quote start at items (quote ∷ rest) are ∙ text_end-quote quote start (at + length (joined items)) (quote ∷ rest) (omega arith) refl
+
+-- a quote begins a text
+pub piece-quote : (at quote : ℕ) (bytes : List ℕ) → is_quote quote ≡ true → piece at (quote ∷ bytes) ≡ (text_end quote at 0 (at + 1) bytes >>= λ end. Ok (record { kind = Token Text; end = end }))
+unfolding plain_piece text
+piece-quote at quote bytes is =
+    let apart = quote_excludes quote is in
+    piece-plain at quote bytes apart.slash ∙ rw (apart.blank, apart.line_end, apart.start, apart.digit, is) refl
 
 pub piece-text : (at quote : ℕ) (items : List (List ℕ)) (rest : List ℕ) → is_quote quote ≡ true → AreItems quote items (quote ∷ rest) → piece at (quote ∷ (joined items ++ quote ∷ []) ++ rest) ≡ Ok (record { kind = Token Text; end = at + length (quote ∷ (joined items ++ quote ∷ [])) })
 unfolding plain_piece text

@@ -1,5 +1,5 @@
 -- Runs of bytes of a class.
-use Rattle.std.proofs.Common.{◌≡◌, ℕ, suc, Bool, true, false, List, [], ◌∷◌, ◌++◌, length, take, drop, refl, arith, ⊎_elim}
+use Rattle.std.proofs.Common.{◌≡◌, ℕ, suc, ◌≤◌, Bool, true, false, List, [], ◌∷◌, ◌++◌, length, take, drop, refl, arith, ⊎_elim}
 use Rattle.std.specs.List.{prefix_len}
 use Rattle.std.proofs.lemmas.Bool.{cases_Bool}
 use Rattle.spec_tokens.specs.Shape.{AllAre, Stops}
@@ -27,3 +27,8 @@ prefix_len-stops p (b ∷ bytes) =
     (λ (yes : p b ≡ true). let longer : prefix_len p (b ∷ bytes) ≡ suc (prefix_len p bytes) = rw yes (omega arith) in rw longer (prefix_len-stops p bytes))
     (λ (no : p b ≡ false). let none : prefix_len p (b ∷ bytes) ≡ 0 = rw no refl in rw none no)
     (cases_Bool (p b))
+
+-- a run goes at least as far as its bytes
+pub prefix_len-least : (p : ℕ → Bool) (text rest : List ℕ) → AllAre p text → length text ≤ prefix_len p (text ++ rest)
+prefix_len-least p [] rest all = omega arith
+prefix_len-least p (b ∷ text) rest all = rw all.0 (omega (arith, prefix_len-least p text rest all.1))

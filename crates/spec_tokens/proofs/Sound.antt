@@ -119,7 +119,7 @@ plain_cut at b bytes found no_line no_block e =
     (chosen (is_line_end b) (is_ok_piece (record { kind = LineEnd; end = at + line_end_len (b ∷ bytes) })) words (Ok found) no_blank.1))
     (chosen (is_blank b) (is_ok_piece (record { kind = Blank; end = at + 1 })) ends (Ok found) e)
 
-piece_cut : (at b : ℕ) (bytes : List ℕ) (found : Piece) → piece at (b ∷ bytes) ≡ Ok found → IsCut (b ∷ bytes) at found
+pub piece_cut : (at b : ℕ) (bytes : List ℕ) (found : Piece) → piece at (b ∷ bytes) ≡ Ok found → IsCut (b ∷ bytes) at found
 unfolding piece
 piece_cut at b bytes found e =
     let blocks = cond (starts_with nat_eq (b ∷ bytes) (47 ∷ 42 ∷ [])) (block_comment at (b ∷ bytes)) (plain_piece at (b ∷ bytes)) in
@@ -145,7 +145,7 @@ is_ok_list x = Ok x
 list_is : (x y : List Lexeme) → is_ok_list x ≡ Ok y → x ≡ y
 list_is x y e = cc
 
-no_list : (read : Result (List Lexeme) LexFault) (list : List Lexeme) (fault : LexFault) → read ≡ Ok list → read ≡ Err fault → ⊥
+pub no_list : (read : Result (List Lexeme) LexFault) (list : List Lexeme) (fault : LexFault) → read ≡ Ok list → read ≡ Err fault → ⊥
 no_list read list fault is faulty = cc
 
 -- what a prepended answer holds
@@ -165,8 +165,8 @@ front_and_list at newline bytes list more found cut list_front behind =
     }
 
 -- the answer for what stands behind a piece
-answer_behind : (at : ℕ) (newline : Bool) (bytes : List ℕ) (list : List Lexeme) (found : Piece) (cut : IsCut bytes at found) → piece at bytes ≡ Ok found → lexemes_from 0 at newline bytes ≡ Ok list → prepend (lexemes_of found.kind cut.text at newline) (lexemes_from 0 (at + length cut.text) (newline_behind found.kind newline) cut.rest) ≡ Ok list
-answer_behind at newline bytes list found cut read e =
+pub answer_behind : (at : ℕ) (newline : Bool) (bytes : List ℕ) (answer : Result (List Lexeme) LexFault) (found : Piece) (cut : IsCut bytes at found) → piece at bytes ≡ Ok found → lexemes_from 0 at newline bytes ≡ answer → prepend (lexemes_of found.kind cut.text at newline) (lexemes_from 0 (at + length cut.text) (newline_behind found.kind newline) cut.rest) ≡ answer
+answer_behind at newline bytes answer found cut read e =
     let whole_len : length bytes ≡ length cut.text + length cut.rest = ap length cut.whole ∙ length-append cut.text cut.rest in
     let some = cut.some in
     let long : 0 < length bytes = omega arith in
@@ -186,7 +186,7 @@ piece_list at newline bytes list (Ok found) some cuts smaller read e =
     let whole_len : length bytes ≡ length cut.text + length cut.rest = ap length cut.whole ∙ length-append cut.text cut.rest in
     let text_some = cut.some in
     let short : length cut.rest < length bytes = omega arith in
-    let behind = behind_front (lexemes_of found.kind cut.text at newline) list (lexemes_from 0 (at + length cut.text) (newline_behind found.kind newline) cut.rest) (answer_behind at newline bytes list found cut read e) in
+    let behind = behind_front (lexemes_of found.kind cut.text at newline) list (lexemes_from 0 (at + length cut.text) (newline_behind found.kind newline) cut.rest) (answer_behind at newline bytes (Ok list) found cut read e) in
     front_and_list at newline bytes list behind.0 found cut behind.2 (smaller (at + length cut.text) (newline_behind found.kind newline) cut.rest behind.0 short behind.1)
 
 list_cut : (fuel at : ℕ) (newline : Bool) (bytes : List ℕ) (list : List Lexeme) → length bytes ≤ fuel → lexemes_from 0 at newline bytes ≡ Ok list → IsList bytes at newline list

@@ -8,3 +8,5 @@ pub mod Piece
 pub mod Tokens
 pub mod Shape
 pub mod Laws
+pub mod Faults
+pub mod Units

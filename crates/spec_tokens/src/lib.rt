@@ -7,5 +7,8 @@ mod laws;
 mod piece;
 
 pub use fault::LexFault;
-pub use laws::{one_token_list, read_are_tokens, tokens_are_read};
+pub use laws::{
+    faults_are_read, one_fault, one_token_list, one_unit_an_item, read_are_faults, read_are_tokens,
+    tokens_are_read, tokens_or_fault,
+};
 pub use piece::{Escape, Piece, PieceKind, TokenKind};
