@@ -10,15 +10,9 @@ seconds of each, the ratio to Node.js, and by what the time of `snap` grows as t
 """
 
 import os
-import subprocess
-import sys
 import tempfile
-import time
 
-RUNS = 5
-NAMES = (10_000, 20_000)
-ROOT = os.path.dirname(os.path.dirname(os.path.abspath(__file__)))
-SNAP = os.path.join(ROOT, "crates", "snap", "out", "snap")
+from beside import RUNS, SNAP, least_beside_node, print_doubling, run
 
 
 def script(names):
@@ -26,24 +20,6 @@ def script(names):
     lines = [f"globalThis.name_{i:06d} = 'the text of name {i:06d}';\n" for i in range(names)]
     lines.append(f"console.log(globalThis.name_{names - 1:06d});\n")
     return "".join(lines).encode()
-
-
-def run(command, folder, wanted):
-    """How many seconds the command takes in the folder, by the clock and of processors."""
-    start = time.perf_counter()
-    child = subprocess.Popen(command, cwd=folder, stdout=subprocess.PIPE, stderr=subprocess.DEVNULL)
-    printed = child.stdout.read()
-    _, status, usage = os.wait4(child.pid, 0)
-    seconds = time.perf_counter() - start
-    child.returncode = os.waitstatus_to_exitcode(status)
-    if child.returncode != 0 or printed != wanted:
-        sys.exit(f"{command} ended with {child.returncode} and printed {printed!r}")
-    return seconds, usage.ru_utime + usage.ru_stime
-
-
-def least(pairs):
-    """The least of the seconds by the clock, and of those of processors."""
-    return tuple(min(seconds) for seconds in zip(*pairs))
 
 
 def measure(names):
@@ -59,19 +35,9 @@ def measure(names):
             ours.append(run([SNAP, "build", "entry.js"], folder, wanted))
             theirs.append(run(node, folder, wanted))
         blob = os.path.getsize(os.path.join(folder, "snapshot.blob"))
-    mine, yardstick = least(ours), least(theirs)
     print(f"script            {names} names, {len(source)} bytes, a blob of {blob} bytes")
-    print(f"snap build        {mine[0]:.3f} s, {mine[1]:.3f} s of processors")
-    print(f"node              {yardstick[0]:.3f} s, {yardstick[1]:.3f} s of processors")
-    print(f"ratio             {mine[0] / yardstick[0]:.2f}, {mine[1] / yardstick[1]:.2f} of processors")
-    return mine
-
-
-def main():
-    single, double = (measure(names) for names in NAMES)
-    growth = double[1] / single[1]
-    print(f"doubling          {double[0] / single[0]:.2f}, {growth:.2f} of processors (bar: at most 2.3)")
+    return least_beside_node("snap build", ours, theirs)
 
 
 if __name__ == "__main__":
-    main()
+    print_doubling(measure)
