@@ -1,4 +1,4 @@
-"""What the benches of `build` and `run` share: timing a command, and printing it beside Node.js."""
+"""What the benches beside Node.js share: timing a command, and printing it beside Node.js."""
 
 import os
 import subprocess
@@ -11,15 +11,15 @@ ROOT = os.path.dirname(os.path.dirname(os.path.abspath(__file__)))
 SNAP = os.path.join(ROOT, "crates", "snap", "out", "snap")
 
 
-def run(command, folder, wanted):
+def run(command, folder, wanted, status=0):
     """How many seconds the command takes in the folder, by the clock and of processors."""
     start = time.perf_counter()
     child = subprocess.Popen(command, cwd=folder, stdout=subprocess.PIPE, stderr=subprocess.DEVNULL)
     printed = child.stdout.read()
-    _, status, usage = os.wait4(child.pid, 0)
+    _, ended, usage = os.wait4(child.pid, 0)
     seconds = time.perf_counter() - start
-    child.returncode = os.waitstatus_to_exitcode(status)
-    if child.returncode != 0 or printed != wanted:
+    child.returncode = os.waitstatus_to_exitcode(ended)
+    if child.returncode != status or printed != wanted:
         sys.exit(f"{command} ended with {child.returncode} and printed {printed[:200]!r}")
     return seconds, usage.ru_utime + usage.ru_stime
 
@@ -33,8 +33,8 @@ def least_beside_node(label, ours, theirs):
     return mine
 
 
-def print_doubling(measure):
-    """Prints by what the least seconds grow as the number of names doubles."""
-    single, double = (measure(names) for names in NAMES)
+def print_doubling(measure, sizes=NAMES):
+    """Prints by what the least seconds grow as the size of what is measured doubles."""
+    single, double = (measure(size) for size in sizes)
     growth = double[1] / single[1]
     print(f"doubling          {double[0] / single[0]:.2f}, {growth:.2f} of processors (bar: at most 2.3)")

@@ -7,10 +7,10 @@ use Rattle.snap_io.specs.Held.{Held, Told, bytes_under}
 use Rattle.snap_io.specs.Written.{AppendsInPart, appended}
 use Rattle.snap.specs.declared.fault.Fault.{Fault}
 use Rattle.snap.specs.declared.fault.Fault.TheVariants as fault
-use Rattle.snap.specs.Answers.{Answers, Builds, BuildsInPart, HoldsBuild, KeepsOrHolds, LeavesBuild, MayLeave, counted, ran}
+use Rattle.snap.specs.Answers.{Answers, Builds, BuildsInPart, HoldsBuild, KeepsOrHolds, LeavesBuild, MayLeave, counted, ran, source_number}
 use Rattle.snap.specs.Coming.{Answered, Asked, Built, Comes, IsSteady, IsVerdict, Message, NoJob, Said, Says, Shows, Unread, Unsaid, Unwritten, WritesNothing, message_of, starved}
 use Rattle.snap.specs.Coming as coming
-use Rattle.snap.specs.Line.{count_line, fault_line, fault_of, read_names, status_of, told_of}
+use Rattle.snap.specs.Line.{Names, count_line, fault_line, fault_of, read_names, source_name, status_of, told_of}
 use Rattle.snap.specs.Telling.{InPart, Sunk, Tells, Untold, Whole}
 use Rattle.snap.specs.Words.{Job, Build, Run, Verify}
 use Rattle.snap.proofs.OneCommand.{one_answer_lem}
@@ -21,19 +21,19 @@ use Rattle.snap.proofs.OneCommand.{one_answer_lem}
 pub record IsAnswer (held : Held) (job : Option Job) (said : Message) : Type 0 where
   pub answer : Result (List ℕ) Fault
   pub answers : Answers held job answer
-  pub is : said ≡ message_of [] answer
+  pub is : said ≡ message_of (source_name job) answer
 
-answer_in : (held : Held) (job : Option Job) (answer : Result (List ℕ) Fault) (said : Message) → Answers held job answer → Says [] answer said → IsAnswer held job said ⊎ (said ≡ starved)
+answer_in : (held : Held) (job : Option Job) (answer : Result (List ℕ) Fault) (said : Message) → Answers held job answer → Says (source_name job) answer said → IsAnswer held job said ⊎ (said ≡ starved)
 answer_in held job answer said answers (Said is) = inl (record { answer = answer; answers = answers; is = is })
 answer_in held job answer said answers (Unsaid is) = inr is
 
 some_is : {X : Type 0} (x y : X) → Some x ≡ Some y → x ≡ y
 some_is x y e = cc
 
-built_prints : (source printed : List ℕ) (before after : Option Held) (held : Held) → Told (Builds source printed) before after → before ≡ Some held → ran (bytes_under held source) [] ≡ Ok printed
+built_prints : (source printed : List ℕ) (before after : Option Held) (held : Held) → Told (Builds source printed) before after → before ≡ Some held → ran source_number (bytes_under held source) [] ≡ Ok printed
 built_prints source printed None after held told e = absurd cc
 built_prints source printed (Some b) None held told e = absurd told
-built_prints source printed (Some b) (Some a) held told e = ap (λ (h : Held). ran (bytes_under h source) []) (sym (some_is b held e)) ∙ told.prints
+built_prints source printed (Some b) (Some a) held told e = ap (λ (h : Held). ran source_number (bytes_under h source) []) (sym (some_is b held e)) ∙ told.prints
 
 -- the message is that of an answer, or memory ran out
 answer_said : (held : Held) (job : Option Job) (files : Asked) (said : Message) → Comes job files said → files.before ≡ Some held
@@ -52,7 +52,7 @@ answer_said held job files said (coming.Starved is kept steady) tells calm quiet
 -- ---- told and only
 
 told_of_answer : (held : Held) (job : Option Job) (said : Message) (told : Option Fault) (sink : Sunk) → IsAnswer held job said ⊎ (said ≡ starved) → Tells said told sink → (HasRisen sink.faults_before sink.faults_after → ⊥) → told ≢ Some fault.NoMemory
-    → (answer : Result (List ℕ) Fault) × Answers held job answer × (told ≡ fault_of answer) × (sink.after ≡ appended sink.before (told_of [] answer))
+    → (answer : Result (List ℕ) Fault) × Answers held job answer × (told ≡ fault_of answer) × (sink.after ≡ appended sink.before (told_of (source_name job) answer))
 told_of_answer held job said told sink (inl a) (Whole is written same) still fed =
     (a.answer, a.answers, is ∙ ap (λ (m : Message). m.fault) a.is, written ∙ ap (λ (m : Message). appended sink.before m.text) a.is)
 told_of_answer held job said told sink (inr e) (Whole is written same) still fed = absurd (fed (is ∙ ap (λ (m : Message). m.fault) e))
@@ -61,14 +61,14 @@ told_of_answer held job said told sink either (Untold is written same) still fed
 
 told_by : (job : Option Job) (files : Asked) (said : Message) (told : Option Fault) (sink : Sunk) (before : Option Held) → files.before ≡ before → Comes job files said → Tells said told sink
     → IfSome before (λ held. (HasRisen files.reads_before files.reads_after → ⊥) → (HasRisen files.writes_before files.writes_after → ⊥) → (HasRisen sink.faults_before sink.faults_after → ⊥) → told ≢ Some fault.NoMemory
-    → (answer : Result (List ℕ) Fault) × Answers held job answer × (told ≡ fault_of answer) × (sink.after ≡ appended sink.before (told_of [] answer)))
+    → (answer : Result (List ℕ) Fault) × Answers held job answer × (told ≡ fault_of answer) × (sink.after ≡ appended sink.before (told_of (source_name job) answer)))
 told_by job files said told sink None e comes tells = tt
 told_by job files said told sink (Some held) e comes tells = λ calm quiet still fed. told_of_answer held job said told sink (answer_said held job files said comes e calm quiet) tells still fed
 
 -- the defined fault, and exactly the defined text
 pub told_defined : (job : Option Job) (files : Asked) (said : Message) (told : Option Fault) (sink : Sunk) → Comes job files said → Tells said told sink
     → IfSome files.before (λ held. (HasRisen files.reads_before files.reads_after → ⊥) → (HasRisen files.writes_before files.writes_after → ⊥) → (HasRisen sink.faults_before sink.faults_after → ⊥) → told ≢ Some fault.NoMemory
-    → (answer : Result (List ℕ) Fault) × Answers held job answer × (told ≡ fault_of answer) × (sink.after ≡ appended sink.before (told_of [] answer)))
+    → (answer : Result (List ℕ) Fault) × Answers held job answer × (told ≡ fault_of answer) × (sink.after ≡ appended sink.before (told_of (source_name job) answer)))
 told_defined job files said told sink comes tells = told_by job files said told sink files.before refl comes tells
 
 only_by : (job : Option Job) (files : Asked) (said : Message) (told : Option Fault) (sink : Sunk) (before : Option Held) → files.before ≡ before → Comes job files said → Tells said told sink
@@ -96,28 +96,28 @@ appended_nothing : (before : Option (List ℕ)) → appended before [] ≡ befor
 appended_nothing None = refl
 appended_nothing (Some written) = ap (λ (w : List ℕ). Some w) (append-nil written)
 
-prefix_of_answer : (held : Held) (job : Option Job) (said : Message) (told : Option Fault) (sink : Sunk) (answer : Result (List ℕ) Fault) → IsAnswer held job said ⊎ (said ≡ starved) → Tells said told sink → Answers held job answer → AppendsInPart (told_of [] answer) sink.before sink.after
+prefix_of_answer : (held : Held) (job : Option Job) (said : Message) (told : Option Fault) (sink : Sunk) (answer : Result (List ℕ) Fault) → IsAnswer held job said ⊎ (said ≡ starved) → Tells said told sink → Answers held job answer → AppendsInPart (told_of (source_name job) answer) sink.before sink.after
 prefix_of_answer held job said told sink answer (inl a) (Whole is written same) defined =
-    let text : said.text ≡ told_of [] answer = ap (λ (m : Message). m.text) a.is ∙ ap (told_of []) (one_answer_lem held job a.answer answer a.answers defined) in
-    (told_of [] answer, ([], append-nil (told_of [] answer)), written ∙ ap (appended sink.before) text)
+    let text : said.text ≡ told_of (source_name job) answer = ap (λ (m : Message). m.text) a.is ∙ ap (told_of (source_name job)) (one_answer_lem held job a.answer answer a.answers defined) in
+    (told_of (source_name job) answer, ([], append-nil (told_of (source_name job) answer)), written ∙ ap (appended sink.before) text)
 prefix_of_answer held job said told sink answer (inl a) (InPart some is part rose up) defined =
-    let text : said.text ≡ told_of [] answer = ap (λ (m : Message). m.text) a.is ∙ ap (told_of []) (one_answer_lem held job a.answer answer a.answers defined) in
+    let text : said.text ≡ told_of (source_name job) answer = ap (λ (m : Message). m.text) a.is ∙ ap (told_of (source_name job)) (one_answer_lem held job a.answer answer a.answers defined) in
     subst (λ (xs : List ℕ). AppendsInPart xs sink.before sink.after) text part
-prefix_of_answer held job said told sink answer (inl a) (Untold is written same) defined = appends_nothing (told_of [] answer) sink.before sink.after written
+prefix_of_answer held job said told sink answer (inl a) (Untold is written same) defined = appends_nothing (told_of (source_name job) answer) sink.before sink.after written
 prefix_of_answer held job said told sink answer (inr e) (Whole is written same) defined =
-    appends_nothing (told_of [] answer) sink.before sink.after (written ∙ ap (λ (m : Message). appended sink.before m.text) e ∙ appended_nothing sink.before)
+    appends_nothing (told_of (source_name job) answer) sink.before sink.after (written ∙ ap (λ (m : Message). appended sink.before m.text) e ∙ appended_nothing sink.before)
 prefix_of_answer held job said told sink answer (inr e) (InPart some is part rose up) defined = absurd (some (ap (λ (m : Message). m.fault) e))
-prefix_of_answer held job said told sink answer (inr e) (Untold is written same) defined = appends_nothing (told_of [] answer) sink.before sink.after written
+prefix_of_answer held job said told sink answer (inr e) (Untold is written same) defined = appends_nothing (told_of (source_name job) answer) sink.before sink.after written
 
 prefix_by : (job : Option Job) (files : Asked) (said : Message) (told : Option Fault) (sink : Sunk) (before : Option Held) → files.before ≡ before → Comes job files said → Tells said told sink
-    → IfSome before (λ held. (answer : Result (List ℕ) Fault) → Answers held job answer → (HasRisen files.reads_before files.reads_after → ⊥) → (HasRisen files.writes_before files.writes_after → ⊥) → AppendsInPart (told_of [] answer) sink.before sink.after)
+    → IfSome before (λ held. (answer : Result (List ℕ) Fault) → Answers held job answer → (HasRisen files.reads_before files.reads_after → ⊥) → (HasRisen files.writes_before files.writes_after → ⊥) → AppendsInPart (told_of (source_name job) answer) sink.before sink.after)
 prefix_by job files said told sink None e comes tells = tt
 prefix_by job files said told sink (Some held) e comes tells = λ answer defined calm quiet.
     prefix_of_answer held job said told sink answer (answer_said held job files said comes e calm quiet) tells defined
 
 -- the sink gets a prefix of the text of the defined answer
 pub prefix_defined : (job : Option Job) (files : Asked) (said : Message) (told : Option Fault) (sink : Sunk) → Comes job files said → Tells said told sink
-    → IfSome files.before (λ held. (answer : Result (List ℕ) Fault) → Answers held job answer → (HasRisen files.reads_before files.reads_after → ⊥) → (HasRisen files.writes_before files.writes_after → ⊥) → AppendsInPart (told_of [] answer) sink.before sink.after)
+    → IfSome files.before (λ held. (answer : Result (List ℕ) Fault) → Answers held job answer → (HasRisen files.reads_before files.reads_after → ⊥) → (HasRisen files.writes_before files.writes_after → ⊥) → AppendsInPart (told_of (source_name job) answer) sink.before sink.after)
 prefix_defined job files said told sink comes tells = prefix_by job files said told sink files.before refl comes tells
 
 -- ---- the line of a fault
@@ -134,53 +134,69 @@ says_line name answer said f (Unsaid is) e =
     let same : fault.NoMemory ≡ f = some_is fault.NoMemory f (sym (ap (λ (m : Message). m.fault) is) ∙ e) in
     ap (λ (m : Message). m.text) is ∙ ap (fault_line name) same
 
--- a line of a fault, which names a file that the job reads where a read failed
+-- a line of a fault, which names the file that it is about
 pub record IsLine (job : Option Job) (f : Fault) (text : List ℕ) : Type 0 where
   pub name : List ℕ
-  pub among : f ≡ fault.Read → Contains (read_names job) name
+  pub names : Names job f name
   pub is : text ≡ fault_line name f
 
-memory_no_read : ◌≡◌ {A = Fault} fault.NoMemory fault.Read → ⊥
-memory_no_read e = absurd cc
+-- want of memory names nothing
+memory_names : (job : Option Job) (name : List ℕ) (f : Fault) → fault.NoMemory ≡ f → Names job f name
+memory_names job name f e = subst (λ (x : Fault). Names job x name) e tt
 
-memory_is_no_read : (f : Fault) → fault.NoMemory ≡ f → f ≡ fault.Read → ⊥
-memory_is_no_read f e r = memory_no_read (e ∙ r)
+-- what is said of an answer names what its fault does
+names_said : (job : Option Job) (name : List ℕ) (answer : Result (List ℕ) Fault) (said : Message) (f : Fault) → ((g : Fault) → answer ≡ Err g → Names job g name) → Says name answer said → said.fault ≡ Some f → Names job f name
+names_said job name (Ok printed) said f names (Said is) e = absurd (none_some f (sym (ap (λ (m : Message). m.fault) is) ∙ e))
+names_said job name (Err g) said f names (Said is) e = subst (λ (x : Fault). Names job x name) (some_is g f (sym (ap (λ (m : Message). m.fault) is) ∙ e)) (names g refl)
+names_said job name answer said f names (Unsaid is) e = memory_names job name f (some_is fault.NoMemory f (sym (ap (λ (m : Message). m.fault) is) ∙ e))
 
-words_no_read : ◌≡◌ {A = Fault} fault.Words fault.Read → ⊥
-words_no_read e = absurd cc
+-- a verdict names the source
+verdict_names : (job : Option Job) (g : Fault) → IsVerdict {X = List ℕ} (Err g) → Names job g (source_name job)
+verdict_names job (fault.Source number why) verdict = refl
+verdict_names job (fault.Blob f) verdict = tt
+verdict_names job fault.NotBuilt verdict = tt
+verdict_names job fault.NothingToRun verdict = tt
+verdict_names job fault.Words verdict = absurd verdict
+verdict_names job fault.Read verdict = absurd verdict
+verdict_names job fault.Write verdict = absurd verdict
+verdict_names job fault.NoMemory verdict = absurd verdict
 
-verdict_no_read : (answer : Result (List ℕ) Fault) (said : Message) (f : Fault) → IsVerdict answer → Says [] answer said → said.fault ≡ Some f → f ≡ fault.Read → ⊥
-verdict_no_read (Ok printed) said f verdict (Said is) e r = none_some f (sym (ap (λ (m : Message). m.fault) is) ∙ e)
-verdict_no_read (Err g) said f verdict (Said is) e r =
-    subst (λ (x : Fault). IsVerdict {X = List ℕ} (Err x)) (some_is g f (sym (ap (λ (m : Message). m.fault) is) ∙ e) ∙ r) verdict
-verdict_no_read answer said f verdict (Unsaid is) e r = memory_is_no_read f (some_is fault.NoMemory f (sym (ap (λ (m : Message). m.fault) is) ∙ e)) r
+err_is : (f g : Fault) → ◌≡◌ {A = Result (List ℕ) Fault} (Err f) (Err g) → f ≡ g
+err_is f g e = cc
 
-refused_no_read : (said : Message) (f : Fault) → Says [] (Err fault.Words) said → said.fault ≡ Some f → f ≡ fault.Read → ⊥
-refused_no_read said f (Said is) e r = words_no_read (some_is fault.Words f (sym (ap (λ (m : Message). m.fault) is) ∙ e) ∙ r)
-refused_no_read said f (Unsaid is) e r = memory_is_no_read f (some_is fault.NoMemory f (sym (ap (λ (m : Message). m.fault) is) ∙ e)) r
+-- an error of a fault names what the fault does
+names_one : (job : Option Job) (name : List ℕ) (f : Fault) → Names job f name → (g : Fault) → ◌≡◌ {A = Result (List ℕ) Fault} (Err f) (Err g) → Names job g name
+names_one job name f names g e = subst (λ (x : Fault). Names job x name) (err_is f g e) names
+
+line_in : (job other : Option Job) (f : Fault) (text : List ℕ) → other ≡ job → IsLine other f text → IsLine job f text
+line_in job other f text e line = subst (λ (x : Option Job). IsLine x f text) e line
 
 line_said : (job : Option Job) (files : Asked) (said : Message) (f : Fault) → Comes job files said → said.fault ≡ Some f → f ≢ fault.Write → IsLine job f said.text
-line_said job files said f (NoJob none says kept steady) e other = record { name = []; among = λ r. absurd (refused_no_read said f says e r); is = says_line [] (Err fault.Words) said f says e }
+line_said job files said f (NoJob none says kept steady) e other =
+    record { name = []; names = names_said job [] (Err fault.Words) said f (names_one job [] fault.Words tt) says e; is = says_line [] (Err fault.Words) said f says e }
 line_said job files said f (Answered j a some verdict nothing shown answers says kept steady) e other =
-    record { name = []; among = λ r. absurd (verdict_no_read a said f verdict says e r); is = says_line [] a said f says e }
+    let name = source_name (Some j) in
+    line_in job (Some j) f said.text (sym some)
+    (record { name = name; names = names_said (Some j) name a said f (λ g is. verdict_names (Some j) g (subst (λ (x : Result (List ℕ) Fault). IsVerdict x) is verdict)) says e; is = says_line name a said f says e })
 line_said job files said f (Built source printed some builds is steady) e other = absurd (none_some f (sym (ap (λ (m : Message). m.fault) is) ∙ e))
 line_said job files said f (Unread j name some among says kept rose up same) e other =
-    record { name = name; among = λ r. subst (λ (x : Option Job). Contains (read_names x) name) (sym some) among; is = says_line name (Err fault.Read) said f says e }
+    line_in job (Some j) f said.text (sym some)
+    (record { name = name; names = names_said (Some j) name (Err fault.Read) said f (names_one (Some j) name fault.Read among) says e; is = says_line name (Err fault.Read) said f says e })
 line_said job files said f (Unwritten source printed some builds is rose up same) e other =
     absurd (other (sym (some_is fault.Write f (sym (ap (λ (m : Message). m.fault) is) ∙ e))))
 line_said job files said f (coming.Starved is kept steady) e other =
-    record { name = []; among = λ r. absurd (memory_is_no_read f (some_is fault.NoMemory f (sym (ap (λ (m : Message). m.fault) is) ∙ e)) r); is = says_line [] (Err fault.NoMemory) said f (Unsaid is) e }
+    record { name = []; names = memory_names job [] f (some_is fault.NoMemory f (sym (ap (λ (m : Message). m.fault) is) ∙ e)); is = says_line [] (Err fault.NoMemory) said f (Unsaid is) e }
 
 -- the sink gets the line of the fault
 pub line_told : (job : Option Job) (files : Asked) (said : Message) (told : Option Fault) (sink : Sunk) → Comes job files said → Tells said told sink → (f : Fault) → told ≡ Some f → f ≢ fault.Write
-    → (name : List ℕ) × (f ≡ fault.Read → Contains (read_names job) name) × (sink.after ≡ appended sink.before (fault_line name f))
+    → (name : List ℕ) × Names job f name × (sink.after ≡ appended sink.before (fault_line name f))
 line_told job files said told sink comes (Whole is written same) f e other =
     let line = line_said job files said f comes (sym is ∙ e) other in
-    (line.name, line.among, written ∙ ap (appended sink.before) line.is)
+    (line.name, line.names, written ∙ ap (appended sink.before) line.is)
 line_told job files said told sink comes (InPart some is part rose up) f e other = absurd (other (sym (some_is fault.Write f (sym is ∙ e))))
 line_told job files said told sink comes (Untold is written same) f e other =
     let none : fault.NoMemory ≡ f = some_is fault.NoMemory f (sym is ∙ e) in
-    ([], (λ r. absurd (memory_is_no_read f none r)), written ∙ sym (appended_nothing sink.before) ∙ ap (λ (g : Fault). appended sink.before (fault_line [] g)) none)
+    ([], memory_names job [] f none, written ∙ sym (appended_nothing sink.before) ∙ ap (λ (g : Fault). appended sink.before (fault_line [] g)) none)
 
 -- ---- counts that rose
 
@@ -312,10 +328,10 @@ shown_count answer (Ok n) said name is (Said e) none = (n, ap (λ (m : Message).
 shown_count answer (Err f) said name is (Said e) none = absurd (none_some f (sym none ∙ ap (λ (m : Message). m.fault) e ∙ ap fault_of is))
 shown_count answer count said name is (Unsaid e) none = absurd (none_some fault.NoMemory (sym none ∙ ap (λ (m : Message). m.fault) e))
 
-verify_shown : (j : Job) (answer : Result (List ℕ) Fault) (blob : List ℕ) (said : Message) → Some j ≡ Some (Verify blob) → Shows j answer → Says [] answer said → said.fault ≡ None → (n : ℕ) × (said.text ≡ count_line n)
+verify_shown : (j : Job) (answer : Result (List ℕ) Fault) (blob : List ℕ) (said : Message) → Some j ≡ Some (Verify blob) → Shows j answer → Says (source_name (Some j)) answer said → said.fault ≡ None → (n : ℕ) × (said.text ≡ count_line n)
 verify_shown (Build source) answer blob said e shown says none = absurd cc
 verify_shown (Run entry) answer blob said e shown says none = absurd cc
-verify_shown (Verify name) answer blob said e shown says none = shown_count answer shown.0 said [] shown.1 says none
+verify_shown (Verify name) answer blob said e shown says none = shown_count answer shown.0 said (source_name (Some (Verify name))) shown.1 says none
 
 verify_said : (job : Option Job) (files : Asked) (said : Message) (blob : List ℕ) → Comes job files said → job ≡ Some (Verify blob) → said.fault ≡ None → (n : ℕ) × (said.text ≡ count_line n)
 verify_said job files said blob (NoJob none says kept steady) is done = absurd cc

@@ -13,7 +13,8 @@ use Rattle.spec_tokens.specs.declared.fault.LexFault.{LexFault}
 use Rattle.snap_graph.specs.declared.value.Value.{Value}
 use Rattle.snap.specs.Properties.{properties_of, property_of}
 use Rattle.snap.specs.Thin.{Globals, ThinStatement, Assign, Log, LogGlobal, assigned, leaves}
-use Rattle.snap.specs.ThinSource.{◌>>=◌, argument, assign_statement, closed, expect, free_name, global_name, is_free_name, is_name_token, literal, log_statement, own_names, parts_by_blanks, source_limit, special_names, statements_of, thin_script, thin_statement, thin_statements}
+use Rattle.snap.specs.Refusals.{source_limit}
+use Rattle.snap.specs.ThinSource.{◌>>=◌, argument, assign_statement, closed, expect, free_name, global_name, is_free_name, is_name_token, literal, log_statement, own_names, parts_by_blanks, special_names, statements_of, thin_script, thin_statement, thin_statements}
 use Rattle.snap.proofs.Steps.{bind_gave, if_gave, some_gave}
 
 -- a statement that sets a name sets a free one

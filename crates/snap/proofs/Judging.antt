@@ -5,18 +5,19 @@ use Rattle.spec_format.specs.declared.fault.BlobKind.TheVariants.{TooLong}
 use Rattle.snap_io.specs.Held.{Held, bytes_under}
 use Rattle.snap.specs.declared.fault.Fault.{Fault}
 use Rattle.snap.specs.declared.fault.Fault.TheVariants as fault
-use Rattle.snap.specs.Coming.{IsVerdict}
+use Rattle.snap.specs.Coming.{IsBlobVerdict}
 use Rattle.snap.specs.Plain.{AtContainer}
 use Rattle.snap.specs.Verify.{Verifies}
 
 -- what is said of bytes is a verdict
-pub is_verdict : (bytes : List ℕ) (answer : Result ℕ Fault) → Verifies bytes answer → IsVerdict answer
+pub is_verdict : (bytes : List ℕ) (answer : Result ℕ Fault) → Verifies bytes answer → IsBlobVerdict answer
 is_verdict bytes (Ok n) h = tt
 is_verdict bytes (Err (fault.Blob f)) h = tt
 is_verdict bytes (Err fault.NotBuilt) h = tt
 is_verdict bytes (Err fault.Words) h = h
 is_verdict bytes (Err fault.Read) h = h
-is_verdict bytes (Err fault.NothingToRun) h = tt
+is_verdict bytes (Err fault.NothingToRun) h = h
+is_verdict bytes (Err (fault.Source number why)) h = h
 is_verdict bytes (Err fault.Write) h = h
 is_verdict bytes (Err fault.NoMemory) h = h
 

@@ -15,6 +15,7 @@ pub mod LeftGlobals
 pub mod MadeFits
 pub mod Builds
 pub mod Clauses
+pub mod Causes
 pub mod OwnFirst
 pub mod Startups
 pub mod KeysApart

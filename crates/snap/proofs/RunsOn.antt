@@ -1,81 +1,65 @@
 -- How the parts of a run make its message.
-use Rattle.std.proofs.Common.{◌≡◌, ◌≢◌, ℕ, ◌≤◌, List, [], ◌∷◌, inl, inr, Option, Some, None, Result, Ok, Err, Contains, refl, sym, ap, subst, ◌∙◌, arith}
+use Rattle.std.proofs.Common.{◌≡◌, ◌≢◌, ℕ, ◌<◌, ◌≤◌, List, [], ◌∷◌, inl, inr, Option, Some, None, Result, Ok, Err, Contains, length, refl, sym, ap, subst, ◌∙◌, arith}
 use Rattle.std.specs.Prelude.{IfSome}
 use Rattle.snap_io.specs.Counts.{HasRisen}
 use Rattle.snap_io.specs.Held.{Held, bytes_under}
 use Rattle.snap.specs.declared.fault.Fault.{Fault}
 use Rattle.snap.specs.declared.fault.Fault.TheVariants as fault
-use Rattle.snap.specs.Answers.{Answers, ran, ran_of}
+use Rattle.snap.specs.Answers.{Answers, entry_number, ran}
 use Rattle.snap.specs.Coming.{Answered, Asked, Comes, IsSteady, IsVerdict, Message, Said, Says, Unsaid, starved}
 use Rattle.snap.specs.Coming as coming
 use Rattle.snap.specs.Kept.{globals_in}
-use Rattle.snap.specs.Line.{blob_name, read_names}
+use Rattle.snap.specs.Line.{blob_name, read_names, source_name}
 use Rattle.snap.specs.declared.kept.Loaded.{Loaded}
-use Rattle.snap.specs.Making.{Fetches, Fetched, Finds, Found, Hungry, Lost, Ran, Runs, TooLong, Failed, Faint}
+use Rattle.snap.specs.Making.{Fetches, Fetched, Finds, Found, Hungry, Lost, Ran, Runs, Failed, Faint}
 use Rattle.snap.specs.Making as making
 use Rattle.snap.specs.Thin.{Globals}
 use Rattle.snap.specs.ThinBlob.{Loads}
 use Rattle.snap.specs.ThinSource.{thin_script}
 use Rattle.snap.specs.Words.{Run}
-use Rattle.snap.proofs.Builds.{HasFetched, one_of_two, says_nothing, says_unread}
+use Rattle.snap.proofs.Builds.{HasFetched, Is, Other, blob_verdict, long_runs_not, memory_or_not, run_verdict, says_nothing, says_other}
+use Rattle.snap.specs.Refusals.{refusal, source_limit}
+use Rattle.snap.specs.declared.refused.SourceFault.TheVariants.{TooLong}
+use Rattle.snap.specs.declared.refused.SourceRefused.TheVariants.{Parse}
 
 err_is : {X : Type 0} (f g : Fault) → ◌≡◌ {A = Result X Fault} (Err f) (Err g) → f ≡ g
 err_is f g e = cc
 
 -- ---- the entry
 
-held_unthin : (held : Option Held) (entry : List ℕ) (globals : Globals) → IfSome held (λ h. thin_script (bytes_under h entry) ≡ None) → IfSome held (λ h. Err fault.NotBuilt ≡ ran (bytes_under h entry) globals)
-held_unthin None entry globals none = tt
-held_unthin (Some h) entry globals none = sym (ap (ran_of globals) none)
+held_long : (held : Option Held) (entry : List ℕ) (globals : Globals) → IfSome held (λ h. source_limit < length (bytes_under h entry)) → IfSome held (λ h. Err (fault.Source entry_number (Parse TooLong)) ≡ ran entry_number (bytes_under h entry) globals)
+held_long None entry globals long = tt
+held_long (Some h) entry globals long = sym (long_runs_not entry_number (bytes_under h entry) globals long)
 
 -- an entry that could not be fetched
-pub runs_unfetched : (entry : List ℕ) (globals : Globals) (files : Asked) (f : Fault) (said : Message) → Fetches entry files (Err f) → Says entry (Err f) said → Runs entry globals files said
+pub runs_unfetched : (entry : List ℕ) (globals : Globals) (files : Asked) (f : Fault) (said : Message) → Fetches entry_number entry files (Err f) → Says entry (Err f) said → Runs entry globals files said
 runs_unfetched entry globals files f said (Fetched v is same kept steady) says = absurd cc
-runs_unfetched entry globals files f said (TooLong is long kept steady) says =
-    Ran (Err fault.NotBuilt) tt (held_unthin files.before entry globals long) (says_unread entry [] said (subst (λ (x : Fault). Says entry (Err x) said) (err_is f fault.NotBuilt is) says)) kept steady
+runs_unfetched entry globals files f said (making.TooLong is long kept steady) says =
+    let e = err_is f (fault.Source entry_number (Parse TooLong)) is in
+    Ran (Err (fault.Source entry_number (Parse TooLong))) tt (held_long files.before entry globals long) (subst (λ (x : Fault). Says entry (Err x) said) e says) kept steady
 runs_unfetched entry globals files f said (Failed is kept rose up same) says =
     making.Unread (subst (λ (x : Fault). Says entry (Err x) said) (err_is f fault.Read is) says) kept rose up same
 runs_unfetched entry globals files f said (Hungry is kept steady) says =
     Faint (says_nothing entry said (subst (λ (x : Fault). Says entry (Err x) said) (err_is f fault.NoMemory is) says)) kept steady
 
-held_ran : (held : Option Held) (entry bytes : List ℕ) (globals : Globals) (answer : Result (List ℕ) Fault) → IfSome held (λ h. bytes ≡ bytes_under h entry) → ran bytes globals ≡ answer → IfSome held (λ h. answer ≡ ran (bytes_under h entry) globals)
+held_ran : (held : Option Held) (entry bytes : List ℕ) (globals : Globals) (answer : Result (List ℕ) Fault) → IfSome held (λ h. bytes ≡ bytes_under h entry) → ran entry_number bytes globals ≡ answer → IfSome held (λ h. answer ≡ ran entry_number (bytes_under h entry) globals)
 held_ran None entry bytes globals answer same is = tt
-held_ran (Some h) entry bytes globals answer same is = sym is ∙ ap (λ (xs : List ℕ). ran xs globals) same
+held_ran (Some h) entry bytes globals answer same is = sym is ∙ ap (λ (xs : List ℕ). ran entry_number xs globals) same
 
 -- an entry that printed
-pub runs_printed : (entry : List ℕ) (globals : Globals) (files : Asked) (bytes printed : List ℕ) (said : Message) → HasFetched entry files bytes → ran bytes globals ≡ Ok printed → said ≡ record { text = printed; fault = None } → Runs entry globals files said
+pub runs_printed : (entry : List ℕ) (globals : Globals) (files : Asked) (bytes printed : List ℕ) (said : Message) → HasFetched entry files bytes → ran entry_number bytes globals ≡ Ok printed → said ≡ record { text = printed; fault = None } → Runs entry globals files said
 runs_printed entry globals files bytes printed said fetched prints is =
     Ran (Ok printed) tt (held_ran files.before entry bytes globals (Ok printed) fetched.same prints) (Said is) fetched.kept fetched.steady
 
--- an entry that is not built
-pub runs_unprinted : (entry : List ℕ) (globals : Globals) (files : Asked) (bytes : List ℕ) (f : Fault) (said : Message) → HasFetched entry files bytes → Contains (fault.NotBuilt ∷ fault.NoMemory ∷ []) f → (f ≡ fault.NotBuilt → ran bytes globals ≡ Err fault.NotBuilt) → Says [] (Err f) said → Runs entry globals files said
-runs_unprinted entry globals files bytes f said fetched either refused says = elim (one_of_two f either) [
-  | inl e ↦
-      Ran (Err fault.NotBuilt) tt (held_ran files.before entry bytes globals (Err fault.NotBuilt) fetched.same (refused e)) (subst (λ (x : Fault). Says [] (Err x) said) e says) fetched.kept fetched.steady
-  | inr e ↦ Faint (says_nothing [] said (subst (λ (x : Fault). Says [] (Err x) said) e says)) fetched.kept fetched.steady
+-- an entry that does not run
+pub runs_unprinted : (entry : List ℕ) (globals : Globals) (files : Asked) (bytes : List ℕ) (f : Fault) (said : Message) → HasFetched entry files bytes → (f ≢ fault.NoMemory → ran entry_number bytes globals ≡ Err f) → Says entry (Err f) said → Runs entry globals files said
+runs_unprinted entry globals files bytes f said fetched refused says = elim (memory_or_not f) [
+  | Is e ↦ Faint (says_nothing entry said (subst (λ (x : Fault). Says entry (Err x) said) e says)) fetched.kept fetched.steady
+  | Other e ↦
+      Ran (Err f) (run_verdict entry_number globals (refusal bytes) (thin_script bytes) f (refused e)) (held_ran files.before entry bytes globals (Err f) fetched.same (refused e)) says fetched.kept fetched.steady
 ]
 
 -- ---- the blob
-
--- a verdict names no file
-says_verdict : (name : List ℕ) (f : Fault) (said : Message) → IsVerdict {X = Globals} (Err f) → Says name (Err f) said → Says [] (Err f) said
-says_verdict name f said verdict (Unsaid is) = Unsaid is
-says_verdict name (fault.Blob f) said verdict (Said is) = Said is
-says_verdict name fault.NotBuilt said verdict (Said is) = Said is
-says_verdict name fault.NothingToRun said verdict (Said is) = Said is
-says_verdict name fault.Words said verdict (Said is) = absurd verdict
-says_verdict name fault.Read said verdict (Said is) = absurd verdict
-says_verdict name fault.Write said verdict (Said is) = absurd verdict
-says_verdict name fault.NoMemory said verdict (Said is) = absurd verdict
-
-verdict_of : (f : Fault) → IsVerdict {X = Globals} (Err f) → IsVerdict {X = List ℕ} (Err f)
-verdict_of (fault.Blob f) verdict = tt
-verdict_of fault.NotBuilt verdict = tt
-verdict_of fault.NothingToRun verdict = tt
-verdict_of fault.Words verdict = verdict
-verdict_of fault.Read verdict = verdict
-verdict_of fault.Write verdict = verdict
-verdict_of fault.NoMemory verdict = verdict
 
 blob_is_read : (entry : Option (List ℕ)) → Contains (read_names (Some (Run entry))) blob_name
 blob_is_read None = (0, omega arith, refl)
@@ -88,7 +72,7 @@ held_refused (Some h) entry f loads = (Err f, loads, refl)
 -- a blob in which nothing was found
 pub comes_unfound : (entry : Option (List ℕ)) (files : Asked) (f : Fault) (said : Message) → Finds files (Err f) → Says blob_name (Err f) said → Comes (Some (Run entry)) files said
 comes_unfound entry files f said (Found verdict loads kept steady) says =
-    Answered (Run entry) (Err f) refl (verdict_of f verdict) tt tt (held_refused files.before entry f loads) (says_verdict blob_name f said verdict says) kept steady
+    Answered (Run entry) (Err f) refl (blob_verdict Globals (List ℕ) f verdict) tt tt (held_refused files.before entry f loads) (says_other Globals blob_name (source_name (Some (Run entry))) f said verdict says) kept steady
 comes_unfound entry files f said (Lost is kept rose up same) says =
     coming.Unread (Run entry) blob_name refl (blob_is_read entry) (subst (λ (x : Fault). Says blob_name (Err x) said) (err_is f fault.Read is) says) kept rose up same
 comes_unfound entry files f said (making.Starved is kept steady) says =
@@ -114,10 +98,10 @@ pub comes_nothing : (files : Asked) (globals : Globals) (said : Message) → Has
 comes_nothing files globals said found says =
     Answered (Run None) (Err fault.NothingToRun) refl tt tt tt (held_nothing files.before globals found.loads) says found.kept found.steady
 
-held_run : (before mid : Option Held) (entry : List ℕ) (globals : Globals) (answer : Result (List ℕ) Fault) → IfSome before (λ h. Loads (bytes_under h blob_name) (Ok globals)) → mid ≡ before → IfSome mid (λ h. answer ≡ ran (bytes_under h entry) globals) → IfSome before (λ h. Answers h (Some (Run (Some entry))) answer)
+held_run : (before mid : Option Held) (entry : List ℕ) (globals : Globals) (answer : Result (List ℕ) Fault) → IfSome before (λ h. Loads (bytes_under h blob_name) (Ok globals)) → mid ≡ before → IfSome mid (λ h. answer ≡ ran entry_number (bytes_under h entry) globals) → IfSome before (λ h. Answers h (Some (Run (Some entry))) answer)
 held_run None mid entry globals answer loads kept is = tt
 held_run (Some h) mid entry globals answer loads kept is =
-    (Ok globals, loads, subst (λ (m : Option Held). IfSome m (λ h. answer ≡ ran (bytes_under h entry) globals)) kept is)
+    (Ok globals, loads, subst (λ (m : Option Held). IfSome m (λ h. answer ≡ ran entry_number (bytes_under h entry) globals)) kept is)
 
 -- the entry was run on what was found
 pub comes_run : (entry : List ℕ) (globals : Globals) (before mid after : Option Held) (r0 r1 r2 w0 w1 w2 : ℕ) (said : Message) → HasFound (record { before = before; after = mid; reads_before = r0; reads_after = r1; writes_before = w0; writes_after = w1 }) globals
@@ -140,6 +124,7 @@ found_read files bytes (Ok l) same loads kept steady = Found tt (held_loads file
 found_read files bytes (Err (fault.Blob f)) same loads kept steady = Found tt (held_loads files.before bytes (Err (fault.Blob f)) same (loads (λ e. absurd cc))) kept steady
 found_read files bytes (Err fault.NotBuilt) same loads kept steady = Found tt (held_loads files.before bytes (Err fault.NotBuilt) same (loads (λ e. absurd cc))) kept steady
 found_read files bytes (Err fault.NoMemory) same loads kept steady = making.Starved refl kept steady
+found_read files bytes (Err (fault.Source number why)) same loads kept steady = absurd (loads (λ e. absurd cc))
 found_read files bytes (Err fault.NothingToRun) same loads kept steady = absurd (loads (λ e. absurd cc))
 found_read files bytes (Err fault.Words) same loads kept steady = absurd (loads (λ e. absurd cc))
 found_read files bytes (Err fault.Read) same loads kept steady = absurd (loads (λ e. absurd cc))

@@ -19,7 +19,8 @@ use Rattle.snap_graph.specs.declared.value.Value.TheVariants as value
 use Rattle.snap.specs.Strings.{mass}
 use Rattle.snap.specs.Properties.{own_properties, properties_of, property_of, texts_of, value_texts}
 use Rattle.snap.specs.Thin.{Globals, ThinStatement, Assign, Log, LogGlobal, assigned, leaves}
-use Rattle.snap.specs.ThinSource.{◌>>=◌, argument, assign_statement, closed, decimal_value, expect, free_name, global_name, is_free_name, is_name_token, literal, literal_value, log_statement, parts_by_blanks, plain_text_value, source_limit, statements_of, thin_script, thin_statement, thin_statements, word_value}
+use Rattle.snap.specs.Refusals.{source_limit}
+use Rattle.snap.specs.ThinSource.{◌>>=◌, argument, assign_statement, closed, decimal_value, expect, free_name, global_name, is_free_name, is_name_token, literal, literal_value, log_statement, parts_by_blanks, plain_text_value, statements_of, thin_script, thin_statement, thin_statements, word_value}
 use Rattle.snap.proofs.Steps.{bind_gave, if_gave, some_gave, unless_gave}
 use Rattle.snap.proofs.Suffixes.{EndsWith, statement_ends}
 

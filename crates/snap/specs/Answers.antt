@@ -3,8 +3,10 @@ use Rattle.std.specs.Prelude.{◌≡◌, ◌≢◌, ◌⊎◌, ℕ, List, [], Op
 use Rattle.snap_io.specs.Held.{Held, Writes, WritesInPart, bytes_under}
 use Rattle.snap.specs.declared.fault.Fault.{Fault}
 use Rattle.snap.specs.declared.fault.Fault.TheVariants as fault
+use Rattle.snap.specs.declared.refused.SourceRefused.{SourceRefused}
 use Rattle.snap.specs.Denoted.{IsBuild, LeavesGlobals}
 use Rattle.snap.specs.Line.{blob_name, count_line}
+use Rattle.snap.specs.Refusals.{refusal}
 use Rattle.snap.specs.Thin.{Globals, ThinStatement, prints}
 use Rattle.snap.specs.ThinSource.{thin_script}
 use Rattle.snap.specs.ThinBlob.{Loads}
@@ -15,15 +17,28 @@ use Rattle.snap.specs.Words.{Job, Build, Run, Verify}
 abbrev pub print_limit : ℕ
 print_limit = 16777216
 
+-- the number of the source of a build, its place among the sources
+abbrev pub source_number : ℕ
+source_number = 0
+
+-- the number of an entry, which is the number of the blob's scripts: a thin blob has one
+abbrev pub entry_number : ℕ
+entry_number = 1
+
 -- what statements print on globals; a source without them is not built, and neither is one that prints too much
 abbrev pub ran_of : Globals → Option (List ThinStatement) → Result (List ℕ) Fault
 ran_of globals None = Err fault.NotBuilt
 ran_of globals (Some statements) =
     if nat_le (length (prints statements globals)) print_limit then Ok (prints statements globals) else Err fault.NotBuilt
 
--- what a source prints on globals
-abbrev pub ran : List ℕ → Globals → Result (List ℕ) Fault
-ran source globals = ran_of globals (thin_script source)
+-- a source that is refused under its number, and else what its statements print
+abbrev pub ran_unless : ℕ → Globals → Option SourceRefused → Option (List ThinStatement) → Result (List ℕ) Fault
+ran_unless number globals (Some refused) statements = Err (fault.Source number refused)
+ran_unless number globals None statements = ran_of globals statements
+
+-- what a source of this number prints on globals, or why it does not run
+abbrev pub ran : ℕ → List ℕ → Globals → Result (List ℕ) Fault
+ran number source globals = ran_unless number globals (refusal source) (thin_script source)
 
 -- a number of strings is told by its line
 abbrev pub counted : Result ℕ Fault → Result (List ℕ) Fault
@@ -34,19 +49,19 @@ counted (Err f) = Err f
 abbrev pub run_answer : Held → Option (List ℕ) → Result Globals Fault → Result (List ℕ) Fault
 run_answer held entry (Err f) = Err f
 run_answer held None (Ok globals) = Err fault.NothingToRun
-run_answer held (Some entry) (Ok globals) = ran (bytes_under held entry) globals
+run_answer held (Some entry) (Ok globals) = ran entry_number (bytes_under held entry) globals
 
 -- the answer to a job over files that hold this: what is printed, or the fault; no job is that the words are refused
 abbrev pub Answers : Held → Option Job → Result (List ℕ) Fault → Type 0
 Answers held None answer = answer ≡ Err fault.Words
-Answers held (Some (Build source)) answer = answer ≡ ran (bytes_under held source) []
+Answers held (Some (Build source)) answer = answer ≡ ran source_number (bytes_under held source) []
 Answers held (Some (Run entry)) answer = (found : Result Globals Fault) × Loads (bytes_under held blob_name) found × (answer ≡ run_answer held entry found)
 Answers held (Some (Verify blob)) answer = (count : Result ℕ Fault) × Verifies (bytes_under held blob) count × (answer ≡ counted count)
 
 -- a build of the source prints this, and the blob's name holds a blob of the source and of what it left; every other
 -- name holds what it held
 pub record Builds (source printed : List ℕ) (before after : Held) : Type 0 where
-  pub prints : ran (bytes_under before source) [] ≡ Ok printed
+  pub prints : ran source_number (bytes_under before source) [] ≡ Ok printed
   pub blob : List ℕ
   pub globals : Globals
   pub leaves : LeavesGlobals (bytes_under before source) globals
@@ -55,7 +70,7 @@ pub record Builds (source printed : List ℕ) (before after : Held) : Type 0 whe
 
 -- the same where the write failed: the blob's name holds what it held, or a prefix of such a blob
 pub record BuildsInPart (source printed : List ℕ) (before after : Held) : Type 0 where
-  pub prints : ran (bytes_under before source) [] ≡ Ok printed
+  pub prints : ran source_number (bytes_under before source) [] ≡ Ok printed
   pub blob : List ℕ
   pub globals : Globals
   pub leaves : LeavesGlobals (bytes_under before source) globals
@@ -69,7 +84,7 @@ pub record HoldsBuild (source : List ℕ) (before after : Held) : Type 0 where
 
 -- the same, where the source is built; elsewhere the files hold what they held
 abbrev pub LeavesBuild : List ℕ → Held → Held → Type 0
-LeavesBuild source before after = MatchResult (ran (bytes_under before source) []) (λ printed. HoldsBuild source before after) (λ refused. after ≡ before)
+LeavesBuild source before after = MatchResult (ran source_number (bytes_under before source) []) (λ printed. HoldsBuild source before after) (λ refused. after ≡ before)
 
 -- every name but the blob's holds what it held
 abbrev pub KeepsOthers : Held → Held → Type 0

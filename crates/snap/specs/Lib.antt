@@ -8,6 +8,7 @@ pub mod Strings
 pub mod Properties
 pub mod Thin
 pub mod ThinSource
+pub mod Refusals
 pub mod Judged
 pub mod Globals
 pub mod Words

@@ -1,11 +1,18 @@
 -- What is printed, and the status that the program ends with.
-use Rattle.std.specs.Prelude.{ℕ, List, [], ◌∷◌, ◌++◌, Option, Some, None, Result, Ok, Err, codes}
+use Rattle.std.specs.Prelude.{◌≡◌, ℕ, Contains, List, [], ◌∷◌, ◌++◌, Option, Some, None, Result, Ok, Err, codes}
 use Rattle.std.specs.Fmt.{decimal}
 use Rattle.spec_format.specs.declared.fault.BlobKind.{BlobKind}
 use Rattle.spec_format.specs.declared.fault.BlobKind.TheVariants.{TooLong, TooShort, BadMagic, BadVersion, BadLength, BadDigest, BadSections, ExternalMissing, Truncated, BadOp, BadNumber, BadString, BadReference, BadShape, BadTable, BadSource, BadScope, BadRoot, Trailing}
+use Rattle.snap.specs.Refusals.{source_limit}
 use Rattle.snap.specs.Words.{Job, Build, Run, Verify}
 use Rattle.snap.specs.declared.fault.Fault.{Fault}
 use Rattle.snap.specs.declared.fault.Fault.TheVariants as fault
+use Rattle.snap.specs.declared.refused.SourceFault.{SourceFault}
+use Rattle.snap.specs.declared.refused.SourceFault.TheVariants as parse
+use Rattle.snap.specs.declared.refused.SourceRefused.{SourceRefused}
+use Rattle.snap.specs.declared.refused.SourceRefused.TheVariants as why
+use Rattle.spec_tokens.specs.declared.fault.LexFault.{LexFault}
+use Rattle.spec_tokens.specs.declared.fault.LexFault.TheVariants as lex
 
 -- the name of a kind
 abbrev pub kind_name : BlobKind → List ℕ
@@ -41,10 +48,66 @@ read_names (Some (Run None)) = blob_name ∷ []
 read_names (Some (Run (Some entry))) = blob_name ∷ entry ∷ []
 read_names (Some (Verify blob)) = blob ∷ []
 
--- the line of a fault; a line ends with a line feed, and that of a failed read names the file
+-- the name of the source that a command runs: the source of a build, the entry of a run
+abbrev pub source_name : Option Job → List ℕ
+source_name None = []
+source_name (Some (Build source)) = source
+source_name (Some (Run None)) = []
+source_name (Some (Run (Some entry))) = entry
+source_name (Some (Verify blob)) = []
+
+-- the name in the line of a fault: a file that the command reads, where a read failed, and the source that it runs, where
+-- that is refused
+abbrev pub Names : Option Job → Fault → List ℕ → Type 0
+Names job fault.Read name = Contains (read_names job) name
+Names job (fault.Source number refused) name = name ≡ source_name job
+Names job (fault.Blob f) name = Unit {0}
+Names job fault.Words name = Unit {0}
+Names job fault.NotBuilt name = Unit {0}
+Names job fault.NothingToRun name = Unit {0}
+Names job fault.Write name = Unit {0}
+Names job fault.NoMemory name = Unit {0}
+
+-- the kind of a fault of the tokens
+abbrev pub lex_kind : LexFault → List ℕ
+lex_kind (lex.BadByte at) = codes "BadByte"
+lex_kind (lex.Unclosed at) = codes "Unclosed"
+lex_kind (lex.BigLiteral at) = codes "BigLiteral"
+lex_kind lex.NoMemory = codes "NoMemory"
+
+-- its place in the source
+abbrev pub lex_place : LexFault → ℕ
+lex_place (lex.BadByte at) = at
+lex_place (lex.Unclosed at) = at
+lex_place (lex.BigLiteral at) = at
+lex_place lex.NoMemory = 0
+
+-- the kind of a fault of a source
+abbrev pub parse_kind : SourceFault → List ℕ
+parse_kind (parse.Lex f) = lex_kind f
+parse_kind parse.TooLong = codes "TooLong"
+
+-- its place in the source; that of a source that is too long is the limit
+abbrev pub parse_place : SourceFault → ℕ
+parse_place (parse.Lex f) = lex_place f
+parse_place parse.TooLong = source_limit
+
+abbrev pub refused_kind : SourceRefused → List ℕ
+refused_kind (why.Parse f) = parse_kind f
+
+abbrev pub refused_place : SourceRefused → ℕ
+refused_place (why.Parse f) = parse_place f
+
+-- both in words, to the end of the line
+abbrev pub refused_text : SourceRefused → List ℕ
+refused_text refused = refused_kind refused ++ codes " at " ++ decimal (refused_place refused) ++ codes "\n"
+
+-- the line of a fault; a line ends with a line feed, and that of a failed read and of a refused source names the file
 abbrev pub fault_line : List ℕ → Fault → List ℕ
 fault_line name fault.Words = codes "words refused\n"
 fault_line name (fault.Blob f) = codes "blob refused: " ++ kind_name f.kind ++ codes " at " ++ decimal f.at ++ codes "\n"
+fault_line name (fault.Source number refused) =
+    codes "source refused: " ++ name ++ codes " " ++ refused_text refused
 fault_line name fault.Read = codes "read failed: " ++ name ++ codes "\n"
 fault_line name fault.NothingToRun = codes "nothing to run\n"
 fault_line name fault.NotBuilt = codes "not built\n"
@@ -68,6 +131,7 @@ told_of name (Err f) = fault_line name f
 abbrev pub status_of : Option Fault → ℕ
 status_of None = 0
 status_of (Some fault.Words) = 2
+status_of (Some (fault.Source number refused)) = 3
 status_of (Some (fault.Blob f)) = 5
 status_of (Some fault.Read) = 6
 status_of (Some fault.Write) = 7

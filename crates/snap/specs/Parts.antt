@@ -31,6 +31,7 @@ pub data HasOthers (bytes : List ℕ) : Type 0 where
 abbrev pub HasNoParts : List ℕ → Fault → Type 0
 HasNoParts bytes (fault.Blob f) = IsRefused bytes f
 HasNoParts bytes fault.NotBuilt = HasOthers bytes
+HasNoParts bytes (fault.Source number refused) = ⊥
 HasNoParts bytes fault.Words = ⊥
 HasNoParts bytes fault.Read = ⊥
 HasNoParts bytes fault.NothingToRun = ⊥

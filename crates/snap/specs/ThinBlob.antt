@@ -59,6 +59,7 @@ abbrev pub Loads : List ℕ → Result Globals Fault → Type 0
 Loads bytes (Ok globals) = IsThin bytes globals
 Loads bytes (Err (fault.Blob f)) = IsRefused bytes f
 Loads bytes (Err fault.NotBuilt) = IsOther bytes
+Loads bytes (Err (fault.Source number refused)) = ⊥
 Loads bytes (Err fault.Words) = ⊥
 Loads bytes (Err fault.Read) = ⊥
 Loads bytes (Err fault.NothingToRun) = ⊥

@@ -9,6 +9,7 @@ use Rattle.spec_tokens.specs.declared.piece.TokenKind.{TokenKind}
 use Rattle.spec_tokens.specs.declared.piece.TokenKind.TheVariants as kind
 use Rattle.snap_graph.specs.declared.value.Value.{Value}
 use Rattle.snap_graph.specs.declared.value.Value.TheVariants.{Undefined, Null, Bool as Truth, Int, Text}
+use Rattle.snap.specs.Refusals.{source_limit}
 use Rattle.snap.specs.Thin.{ThinStatement, Log, LogGlobal, Assign}
 
 infixl 10 ◌>>=◌
@@ -141,10 +142,6 @@ parts_by_blanks source from (l ∷ ls) =
 -- the statements of tokens of a source
 unfoldable pub statements_of : List ℕ → List Lexeme → Option (List ThinStatement)
 statements_of source ls = if parts_by_blanks source 0 ls then thin_statements (length ls) ls else None
-
--- the most bytes of a source
-abbrev pub source_limit : ℕ
-source_limit = 1048576
 
 -- the statements of a thin script, and none where the source is no thin script
 unfoldable pub thin_script : List ℕ → Option (List ThinStatement)

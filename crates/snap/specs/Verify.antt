@@ -42,6 +42,7 @@ abbrev pub Verifies : List ℕ → Result ℕ Fault → Type 0
 Verifies bytes (Ok n) = HasStrings bytes n
 Verifies bytes (Err (fault.Blob f)) = IsRefused bytes f
 Verifies bytes (Err fault.NotBuilt) = IsNotBuilt bytes
+Verifies bytes (Err (fault.Source number refused)) = ⊥
 Verifies bytes (Err fault.Words) = ⊥
 Verifies bytes (Err fault.Read) = ⊥
 Verifies bytes (Err fault.NothingToRun) = ⊥

@@ -1,7 +1,8 @@
 //! `build` over files: the source is judged and run and its blob made before anything is written.
 
-ghost use Rattle.std.specs.Prelude.{◌≡◌, [], ◌∷◌, map, Some, Err, Contains, IfOk, IfErr};
-ghost use Rattle.snap.specs.Answers.{ran};
+ghost use Rattle.std.specs.Prelude.{◌≡◌, ◌≢◌, [], map, Some, None, Err, IfOk};
+ghost use Rattle.snap.specs.Answers.{ran, source_number};
+ghost use Rattle.snap.specs.Refusals.{refusal};
 ghost use Rattle.snap.specs.Coming.{Comes};
 ghost use Rattle.snap.specs.declared.fault.Fault.{Fault};
 ghost use Rattle.snap.specs.Thin.{thin_of};
@@ -13,7 +14,8 @@ ghost use Rattle.snap.specs.Words.{Build};
 use crate::build::made_blob;
 use crate::evaluate::{Stop, evaluate};
 use crate::fault::Fault;
-use crate::judge::{SOURCE_LIMIT, thin_script};
+use crate::judge::{SOURCE_LIMIT, Unjudged, judge};
+use crate::refused::{SourceFault, SourceRefused};
 use crate::said::{Said, refused, starved};
 use crate::statement::Statement;
 use indexmap::IndexMap;
@@ -43,19 +45,19 @@ pub(crate) fn build<F: Files>(alloc: Global, source: &str, files: &mut F) -> Sai
       writes_after = F.write_faults files.new;
     }) (message_view result) }
 {
-    let bytes = match fetch(source, files) {
+    let bytes = match fetch(source, 0, files) {
         Ok(bytes) => bytes,
         Err(fault) => return refused(alloc, source, fault),
     };
     match make(alloc, &bytes) {
         Ok(made) => put(alloc, made, files),
-        Err(fault) => refused(alloc, "", fault),
+        Err(fault) => refused(alloc, source, fault),
     }
 }
 
-/// The bytes of a source, or why there are none to run.
-pub(crate) fn fetch<F: Files>(source: &str, files: &mut F) -> Result<Vec<u8>, Fault>
-    ensures { Fetches source.now (record {
+/// The bytes of a source, or why there are none to run under this number.
+pub(crate) fn fetch<F: Files>(source: &str, number: u32, files: &mut F) -> Result<Vec<u8>, Fault>
+    ensures { Fetches number source.now (record {
       before = F.held files.old;
       after = F.held files.new;
       reads_before = F.read_faults files.old;
@@ -66,7 +68,10 @@ pub(crate) fn fetch<F: Files>(source: &str, files: &mut F) -> Result<Vec<u8>, Fa
 {
     match files.read(source, SOURCE_LIMIT as u32) {
         Ok(bytes) => Ok(bytes),
-        Err(ReadAnswer::TooLong) => Err(Fault::NotBuilt),
+        Err(ReadAnswer::TooLong) => Err(Fault::Source(
+            number,
+            SourceRefused::Parse(SourceFault::TooLong),
+        )),
         Err(ReadAnswer::Failed) => Err(Fault::Read),
         Err(ReadAnswer::NoMemory) => Err(Fault::NoMemory),
     }
@@ -75,21 +80,21 @@ pub(crate) fn fetch<F: Files>(source: &str, files: &mut F) -> Result<Vec<u8>, Fa
 // What the source prints, and the blob of what it leaves.
 fn make(alloc: Global, source: &[u8]) -> Result<Made, Fault>
     ensures ok { IfOk result (λ made. IsMade source.now made.printed.items made.blob.items) }
-    ensures not_built { result ≡ Err Fault.NotBuilt → ran source.now [] ≡ Err Fault.NotBuilt }
-    ensures err { IfErr result (λ f. Contains (Fault.NotBuilt ∷ Fault.NoMemory ∷ []) f) }
+    ensures refused { (f : Fault) → result ≡ Err f → f ≢ Fault.NoMemory → ran source_number source.now [] ≡ Err f }
 {
-    match thin_script(alloc, source) {
+    match judge(alloc, source) {
         Ok(Some(statements)) => run(alloc, source, &statements),
         Ok(None) => Err(Fault::NotBuilt),
-        Err(_) => Err(Fault::NoMemory),
+        Err(Unjudged::Refused(why)) => Err(Fault::Source(0, why)),
+        Err(Unjudged::NoMemory) => Err(Fault::NoMemory),
     }
 }
 
 fn run(alloc: Global, source: &[u8], statements: &[Statement<'_>]) -> Result<Made, Fault>
-    requires { thin_script source.now ≡ Some (map thin_of statements.now) }
+    requires thin { thin_script source.now ≡ Some (map thin_of statements.now) }
+    requires accepted { refusal source.now ≡ None }
     ensures ok { IfOk result (λ made. IsMade source.now made.printed.items made.blob.items) }
-    ensures not_built { result ≡ Err Fault.NotBuilt → ran source.now [] ≡ Err Fault.NotBuilt }
-    ensures err { IfErr result (λ f. Contains (Fault.NotBuilt ∷ Fault.NoMemory ∷ []) f) }
+    ensures refused { (f : Fault) → result ≡ Err f → f ≢ Fault.NoMemory → ran source_number source.now [] ≡ Err f }
 {
     let mut globals = IndexMap::new(alloc);
     let mut printed = Vec::new(alloc);

@@ -1,15 +1,18 @@
 //! Which sources are thin scripts.
 
-ghost use Rattle.std.specs.Prelude.{◌≡◌, length, slice_range, IfNone, IfOk, IfSome};
+ghost use Rattle.std.specs.Prelude.{◌≡◌, length, slice_range, None, Some, Err, IfOk};
 ghost use Rattle.std.specs.List.{list_all, list_any};
 ghost use Rattle.std.specs.Str.{bytes_eq};
 ghost use Rattle.std.specs.Option.{option_map};
 ghost use Rattle.spec_tokens.specs.Byte.{is_digit};
 ghost use Rattle.snap_lex.specs.View.{views};
 ghost use Rattle.snap.specs.Judged.{left, literal_left, name_left, statement_left, thin_list};
+ghost use Rattle.snap.specs.Refusals.{refusal};
+ghost use Rattle.snap.specs.declared.refused.SourceRefused.{SourceRefused};
 ghost use Rattle.snap.specs.Thin.{thin_of, value_of};
 ghost use Rattle.snap.specs.ThinSource.{argument, assign_statement, closed, decimal_value, expect, free_name, global_name, is_free_name, is_parting, literal, literal_value, log_statement, own_names, plain_text_value, parts_by_blanks, statements_of, thin_script, thin_statement, thin_statements, word_value};
 
+use crate::refused::{SourceFault, SourceRefused};
 use crate::statement::{Literal, Statement};
 use snap_lex::{LexFault, Token, TokenKind, safe_number, tokens};
 use std::alloc::{AllocError, Global};
@@ -17,22 +20,41 @@ use std::alloc::{AllocError, Global};
 /// The most bytes of a source.
 pub(crate) const SOURCE_LIMIT: usize = 1_048_576;
 
-/// The statements of a thin script; none where the source is no thin script.
-#[tactic(auto, unfolding(crate::specs::ThinSource::thin_script))]
-pub(crate) fn thin_script(
-    alloc: Global,
-    source: &[u8],
-) -> Result<Option<Vec<Statement<'_>>>, AllocError>
-    ensures { IfOk result (λ o. thin_list o ≡ thin_script source.now) }
+/// Why a source has no statements.
+#[derive(Clone, Copy, Debug, PartialEq, Eq)]
+pub(crate) enum Unjudged {
+    /// It is refused.
+    Refused(SourceRefused),
+    /// Memory ran out.
+    NoMemory,
+}
+
+/// The statements of a thin script; none where the source is another script.
+#[tactic(auto, unfolding(crate::specs::ThinSource::thin_script, crate::specs::Refusals::refusal))]
+pub(crate) fn judge(alloc: Global, source: &[u8]) -> Result<Option<Vec<Statement<'_>>>, Unjudged>
+    ensures judged { IfOk result (λ o. thin_list o ≡ thin_script source.now) }
+    ensures accepted { IfOk result (λ o. refusal source.now ≡ None) }
+    ensures unthin { (why : SourceRefused) → result ≡ Err (Unjudged.Refused why) → thin_script source.now ≡ None }
+    ensures refused { (why : SourceRefused) → result ≡ Err (Unjudged.Refused why) → refusal source.now ≡ Some why }
 {
     if source.len() > SOURCE_LIMIT {
-        return Ok(None);
+        return refused(SourceFault::TooLong);
     }
     match tokens(alloc, source) {
-        Ok(list) => statements_of(alloc, source, &list),
-        Err(LexFault::NoMemory) => Err(AllocError),
-        Err(_) => Ok(None),
+        Ok(list) => match statements_of(alloc, source, &list) {
+            Ok(found) => Ok(found),
+            Err(_) => Err(Unjudged::NoMemory),
+        },
+        Err(LexFault::NoMemory) => Err(Unjudged::NoMemory),
+        Err(fault) => refused(SourceFault::Lex(fault)),
     }
+}
+
+// A source without a tree.
+fn refused<'s>(fault: SourceFault) -> Result<Option<Vec<Statement<'s>>>, Unjudged>
+    ensures { result ≡ Err (Unjudged.Refused (SourceRefused.Parse fault)) }
+{
+    Err(Unjudged::Refused(SourceRefused::Parse(fault)))
 }
 
 // The statements of the tokens of a source.

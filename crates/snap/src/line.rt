@@ -2,19 +2,23 @@
 
 ghost use Rattle.std.specs.Prelude.{◌≡◌, [], IfOk};
 ghost use Rattle.std.specs.String.{string_bytes};
-ghost use Rattle.snap.specs.Line.{count_line, fault_line, kind_name, status_of};
+ghost use Rattle.snap.specs.Line.{count_line, fault_line, kind_name, lex_kind, lex_place, parse_kind, parse_place, refused_kind, refused_place, refused_text, status_of};
 
 use crate::fault::Fault;
+use crate::judge::SOURCE_LIMIT;
+use crate::refused::{SourceFault, SourceRefused};
 use snap_blob::{BlobFault, BlobKind};
+use snap_lex::LexFault;
 use std::alloc::{AllocError, Global};
 
-/// The line of a fault, with its line feed, where `name` is that of the file whose read failed; nothing
-/// where the fault has no line.
+/// The line of a fault, with its line feed, where `name` is that of the file whose read failed or of the
+/// source that is refused; nothing where the fault has no line.
 pub(crate) fn fault_line(alloc: Global, name: &str, fault: Fault) -> Result<String, AllocError>
     ensures { IfOk result (λ line. string_bytes line ≡ fault_line name.now fault) }
 {
     match fault {
         Fault::Words => String::from_str(alloc, "words refused\n"),
+        Fault::Source(_, why) => source_refusal(alloc, name, why),
         Fault::Blob(fault) => refusal(alloc, fault),
         Fault::NothingToRun => String::from_str(alloc, "nothing to run\n"),
         Fault::NotBuilt => String::from_str(alloc, "not built\n"),
@@ -29,6 +33,76 @@ fn refusal(alloc: Global, fault: BlobFault) -> Result<String, AllocError>
     let kind = kind_name(fault.kind);
     let at = fault.at;
     format!(in alloc; "blob refused: {kind} at {at}\n")
+}
+
+fn source_refusal(alloc: Global, name: &str, why: SourceRefused) -> Result<String, AllocError>
+    ensures { IfOk result (λ line. string_bytes line ≡ fault_line name.now (Fault.Source 0 why)) }
+{
+    let mut line = format!(in alloc; "source refused: {name} ")?;
+    line.push_str(&refused_text(alloc, why)?)?;
+    Ok(line)
+}
+
+fn refused_text(alloc: Global, why: SourceRefused) -> Result<String, AllocError>
+    ensures { IfOk result (λ text. string_bytes text ≡ refused_text why) }
+{
+    let kind = refused_kind(why);
+    let at = refused_place(why);
+    format!(in alloc; "{kind} at {at}\n")
+}
+
+fn refused_kind(why: SourceRefused) -> &'static str
+    ensures { result.now ≡ refused_kind why }
+{
+    match why {
+        SourceRefused::Parse(fault) => parse_kind(fault),
+    }
+}
+
+fn parse_kind(fault: SourceFault) -> &'static str
+    ensures { result.now ≡ parse_kind fault }
+{
+    match fault {
+        SourceFault::Lex(fault) => lex_kind(fault),
+        SourceFault::TooLong => "TooLong",
+    }
+}
+
+fn lex_kind(fault: LexFault) -> &'static str
+    ensures { result.now ≡ lex_kind fault }
+{
+    match fault {
+        LexFault::BadByte(_) => "BadByte",
+        LexFault::Unclosed(_) => "Unclosed",
+        LexFault::BigLiteral(_) => "BigLiteral",
+        LexFault::NoMemory => "NoMemory",
+    }
+}
+
+fn refused_place(why: SourceRefused) -> u32
+    ensures { result ≡ refused_place why }
+{
+    match why {
+        SourceRefused::Parse(fault) => parse_place(fault),
+    }
+}
+
+fn parse_place(fault: SourceFault) -> u32
+    ensures { result ≡ parse_place fault }
+{
+    match fault {
+        SourceFault::Lex(fault) => lex_place(fault),
+        SourceFault::TooLong => SOURCE_LIMIT as u32,
+    }
+}
+
+fn lex_place(fault: LexFault) -> u32
+    ensures { result ≡ lex_place fault }
+{
+    match fault {
+        LexFault::BadByte(at) | LexFault::Unclosed(at) | LexFault::BigLiteral(at) => at,
+        LexFault::NoMemory => 0,
+    }
 }
 
 /// The line of a number of strings.
@@ -72,6 +146,7 @@ pub(crate) fn status_of(fault: Option<Fault>) -> u8
     match fault {
         None => 0,
         Some(Fault::Words) => 2,
+        Some(Fault::Source(_, _)) => 3,
         Some(Fault::Blob(_)) => 5,
         Some(Fault::Read) => 6,
         Some(Fault::Write) => 7,

@@ -18,7 +18,7 @@ ghost use Rattle.snap.specs.ThinParts.{AreThin};
 ghost use Rattle.snap.specs.ThinSource.{thin_script};
 
 use crate::fault::Fault;
-use crate::judge;
+use crate::judge::{Unjudged, judge};
 use crate::keeping::globals_behind;
 use crate::kept::{Kept, Loaded};
 use crate::parts::{Parts, parts_of, strings_in};
@@ -91,9 +91,10 @@ fn globals_of_sections(
 fn is_thin_script(alloc: Global, script: &[u8]) -> Result<bool, NoMemory>
     ensures { IfOk result (λ b. b ≡ is_some (thin_script script.now)) }
 {
-    match judge::thin_script(alloc, script) {
+    match judge(alloc, script) {
         Ok(found) => Ok(found.is_some()),
-        Err(_) => Err(NoMemory),
+        Err(Unjudged::Refused(_)) => Ok(false),
+        Err(Unjudged::NoMemory) => Err(NoMemory),
     }
 }
 

@@ -15,6 +15,7 @@ mod outcome;
 mod own;
 mod parts;
 mod properties;
+mod refused;
 mod running;
 mod said;
 mod serial;

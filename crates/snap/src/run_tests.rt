@@ -4,11 +4,13 @@ ghost use Rattle.std.specs.Prelude.{IfOk};
 ghost use Rattle.snap_io.specs.NamedFile.{AreApart};
 
 use crate::fault::Fault;
+use crate::refused::{SourceFault, SourceRefused};
 use crate::serial::snap_serial;
 use crate::tests::{
     BLOB_A, CONTEXT, EXTERNALS, READ_ONLY, STARTUP, number, prints, sealed, words_of,
 };
 use snap_io::{Files, HonestFiles, HonestSink, MemFiles, MemSink, NamedFile};
+use snap_lex::LexFault;
 use std::alloc::{AllocError, Global};
 use std::process::Abort;
 use std::test::Fail;
@@ -181,7 +183,7 @@ fn built(rt: &impl Abort, alloc: Global, source: &[u8]) -> Result<Vec<u8>, Fail>
 const SOURCE: &[u8] = b"globalThis.foo = 'I am from the snapshot'; console.log(7);";
 
 /// Entries on the blob of that source, what they print, and the status.
-const ENTRIES: [(&str, &str, u8); 12] = [
+const ENTRIES: [(&str, &str, u8); 13] = [
     (
         "console.log(globalThis.foo); console.log(globalThis.bar);",
         "I am from the snapshot\nundefined\n",
@@ -210,6 +212,7 @@ const ENTRIES: [(&str, &str, u8); 12] = [
     ("console.log(-5);", "not built\n", 11),
     ("console.log(globalThis.Object);", "not built\n", 11),
     ("// nothing", "not built\n", 11),
+    ("console.log('a", "source refused: e.js Unclosed at 12\n", 3),
 ];
 
 #[test]
@@ -259,7 +262,28 @@ fn longest_entry(rt: HostRuntime) -> Result<(), Fail> {
     entry.truncate(1_048_578);
     assert_eq!(rt; entry.len(), 1_048_578);
     runs(&rt, alloc, &blob, &entry[2..], b"-5\n", 0)?;
-    runs(&rt, alloc, &blob, &entry[1..], b"not built\n", 11)
+    let line = b"source refused: e.js TooLong at 1048576\n";
+    runs(&rt, alloc, &blob, &entry[1..], line, 3)
+}
+
+/// An entry that is refused is so under the number of the blob's scripts.
+#[test]
+fn refused_entry(rt: HostRuntime) -> Result<(), Fail> {
+    let alloc = rt.alloc();
+    let words = words_of(alloc, &["run", "e.js"])?;
+    let entry = b"/* 9007199254740992 */ 9007199254740992";
+    let mut files = HonestFiles::new(alloc, script_file(alloc, "e.js", entry)?);
+    files.write("snapshot.blob", &by_hand(alloc, MINUS_FIVE)?)?;
+    let mut out = HonestSink::new(alloc);
+    let outcome = snap_serial(alloc, &words, &mut files, &mut out, 0);
+    let why = SourceRefused::Parse(SourceFault::Lex(LexFault::BigLiteral(23)));
+    assert_eq!(rt; outcome.fault, Some(Fault::Source(1, why)));
+    assert_eq!(rt; outcome.status, 3);
+    assert_eq!(rt;
+        out.written(),
+        b"source refused: e.js BigLiteral at 23\n".as_slice()
+    );
+    Ok(())
 }
 
 /// What else the last property may be: its key, its value, what an entry that prints `x` prints, and

@@ -1,9 +1,10 @@
 //! `run` over files: an entry is run on what the blob holds.
 
-ghost use Rattle.std.specs.Prelude.{◌≡◌, [], ◌∷◌, map, Some, Ok, Err, Contains, IfOk, IfErr};
+ghost use Rattle.std.specs.Prelude.{◌≡◌, ◌≢◌, map, Some, None, Ok, Err, IfOk};
 ghost use Rattle.std.specs.Option.{option_map};
 ghost use Rattle.snap.specs.declared.fault.Fault.{Fault};
-ghost use Rattle.snap.specs.Answers.{ran};
+ghost use Rattle.snap.specs.Answers.{entry_number, ran};
+ghost use Rattle.snap.specs.Refusals.{refusal};
 ghost use Rattle.snap.specs.Coming.{Comes};
 ghost use Rattle.snap.specs.Globals.{entries_of};
 ghost use Rattle.snap.specs.Kept.{AreApart, globals_in, kept_globals};
@@ -16,7 +17,7 @@ ghost use Rattle.snap.specs.Words.{Run};
 use crate::building::{BLOB_NAME, fetch};
 use crate::evaluate::{Stop, evaluate};
 use crate::fault::Fault;
-use crate::judge::thin_script;
+use crate::judge::{Unjudged, judge};
 use crate::kept::{Loaded, globals_of};
 use crate::load::load;
 use crate::said::{Said, refused};
@@ -24,6 +25,9 @@ use crate::statement::Statement;
 use snap_blob::{BLOB_LIMIT, BlobFault, BlobKind};
 use snap_io::{Files, ReadAnswer};
 use std::alloc::Global;
+
+/// The number of an entry, which is the number of the blob's scripts: a thin blob has one.
+const ENTRY_NUMBER: u32 = 1;
 
 /// Runs an entry on the globals of the blob.
 pub(crate) fn run<F: Files>(alloc: Global, entry: Option<&str>, files: &mut F) -> Said
@@ -81,7 +85,7 @@ fn run_entry<F: Files>(alloc: Global, loaded: &Loaded, entry: &str, files: &mut 
       writes_after = F.write_faults files.new;
     }) (message_view result) }
 {
-    let bytes = match fetch(entry, files) {
+    let bytes = match fetch(entry, ENTRY_NUMBER, files) {
         Ok(bytes) => bytes,
         Err(fault) => return refused(alloc, entry, fault),
     };
@@ -90,21 +94,21 @@ fn run_entry<F: Files>(alloc: Global, loaded: &Loaded, entry: &str, files: &mut 
             text: printed,
             fault: None,
         },
-        Err(fault) => refused(alloc, "", fault),
+        Err(fault) => refused(alloc, entry, fault),
     }
 }
 
 // What an entry prints.
 fn print(alloc: Global, loaded: &Loaded, entry: &[u8]) -> Result<Vec<u8>, Fault>
     requires { AreApart (kept_globals loaded.now.globals.items) }
-    ensures ok { IfOk result (λ printed. ran entry.now (kept_globals loaded.now.globals.items) ≡ Ok printed.items) }
-    ensures not_built { result ≡ Err Fault.NotBuilt → ran entry.now (kept_globals loaded.now.globals.items) ≡ Err Fault.NotBuilt }
-    ensures err { IfErr result (λ f. Contains (Fault.NotBuilt ∷ Fault.NoMemory ∷ []) f) }
+    ensures ok { IfOk result (λ printed. ran entry_number entry.now (kept_globals loaded.now.globals.items) ≡ Ok printed.items) }
+    ensures refused { (f : Fault) → result ≡ Err f → f ≢ Fault.NoMemory → ran entry_number entry.now (kept_globals loaded.now.globals.items) ≡ Err f }
 {
-    match thin_script(alloc, entry) {
+    match judge(alloc, entry) {
         Ok(Some(statements)) => evaluate_on(alloc, loaded, entry, &statements),
         Ok(None) => Err(Fault::NotBuilt),
-        Err(_) => Err(Fault::NoMemory),
+        Err(Unjudged::Refused(why)) => Err(Fault::Source(ENTRY_NUMBER, why)),
+        Err(Unjudged::NoMemory) => Err(Fault::NoMemory),
     }
 }
 
@@ -116,9 +120,9 @@ fn evaluate_on(
 ) -> Result<Vec<u8>, Fault>
     requires apart { AreApart (kept_globals loaded.now.globals.items) }
     requires thin { thin_script entry.now ≡ Some (map thin_of statements.now) }
-    ensures ok { IfOk result (λ printed. ran entry.now (kept_globals loaded.now.globals.items) ≡ Ok printed.items) }
-    ensures not_built { result ≡ Err Fault.NotBuilt → ran entry.now (kept_globals loaded.now.globals.items) ≡ Err Fault.NotBuilt }
-    ensures err { IfErr result (λ f. Contains (Fault.NotBuilt ∷ Fault.NoMemory ∷ []) f) }
+    requires accepted { refusal entry.now ≡ None }
+    ensures ok { IfOk result (λ printed. ran entry_number entry.now (kept_globals loaded.now.globals.items) ≡ Ok printed.items) }
+    ensures refused { (f : Fault) → result ≡ Err f → f ≢ Fault.NoMemory → ran entry_number entry.now (kept_globals loaded.now.globals.items) ≡ Err f }
 {
     let Ok(mut globals) = globals_of(alloc, loaded) else {
         return Err(Fault::NoMemory);

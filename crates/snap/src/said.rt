@@ -20,7 +20,7 @@ pub(crate) struct Said {
     pub(crate) fault: Option<Fault>,
 }
 
-/// The line of a fault, where `name` is that of the file whose read failed.
+/// The line of a fault, where `name` is that of the file whose read failed or of the source that is refused.
 pub(crate) fn refused(alloc: Global, name: &str, fault: Fault) -> Said
     ensures { Says name.now (Err fault) (message_view result) }
 {

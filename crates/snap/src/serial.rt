@@ -4,12 +4,14 @@ ghost use Rattle.std.specs.Prelude.{◌≡◌, ◌≢◌, ◌<◌, ◌⊎◌, �
 ghost use Rattle.std.specs.Option.{option_map};
 ghost use Rattle.spec_format.specs.declared.fault.BlobFault.{BlobFault};
 ghost use Rattle.snap_io.specs.Counts.{HasRisen};
-ghost use Rattle.snap_io.specs.Held.{Held, Told};
+ghost use Rattle.snap_io.specs.Held.{Held, Told, bytes_under};
 ghost use Rattle.snap_io.specs.Written.{AppendsInPart, appended};
 ghost use Rattle.snap.specs.declared.fault.Fault.{Fault};
 ghost use Rattle.snap.specs.Answers.{Answers, HoldsBuild, KeepsOrHolds, KeepsOthers, LeavesBuild, MayLeave};
 ghost use Rattle.snap.specs.Coming.{Comes, Counts, IsRefusal};
-ghost use Rattle.snap.specs.Line.{count_line, fault_line, fault_of, read_names, status_of, told_of, unwritten_line};
+ghost use Rattle.snap.specs.Line.{Names, count_line, fault_line, fault_of, read_names, source_name, status_of, told_of, unwritten_line};
+ghost use Rattle.snap.specs.Refusals.{HasCause};
+ghost use Rattle.snap.specs.declared.refused.SourceRefused.{SourceRefused};
 ghost use Rattle.snap.specs.Telling.{Tells};
 ghost use Rattle.snap.specs.Views.{job_view, message_view};
 ghost use Rattle.snap.specs.Words.{Job as command, Build, Verify, bytes_of, job_of};
@@ -46,7 +48,7 @@ pub fn snap_serial<F: Files, O: Sink>(
         → result.fault ≢ Some Fault.NoMemory
         → (answer : Result (List ℕ) Fault) × Answers held (job_of (bytes_of words.now)) answer
         × (result.fault ≡ fault_of answer)
-        × (O.written out.new ≡ appended (O.written out.old) (told_of [] answer))) }
+        × (O.written out.new ≡ appended (O.written out.old) (told_of (source_name (job_of (bytes_of words.now))) answer))) }
 
     // No other answer is defined, so each fault comes exactly where it is.
     ensures only { IfSome (F.held files.old) (λ held. (answer : Result (List ℕ) Fault)
@@ -61,6 +63,9 @@ pub fn snap_serial<F: Files, O: Sink>(
     ensures words { result.fault ≡ Some Fault.Words → job_of (bytes_of words.now) ≡ None }
     ensures blob { (f : BlobFault) → result.fault ≡ Some (Fault.Blob f)
         → IfSome (F.held files.old) (λ held. Answers held (job_of (bytes_of words.now)) (Err (Fault.Blob f))) }
+    ensures source { (number : ℕ) (why : SourceRefused) → result.fault ≡ Some (Fault.Source number why)
+        → IfSome (F.held files.old) (λ held. Answers held (job_of (bytes_of words.now)) (Err (Fault.Source number why))
+        × HasCause (bytes_under held (source_name (job_of (bytes_of words.now)))) why) }
     ensures not_built { result.fault ≡ Some Fault.NotBuilt
         → IfSome (F.held files.old) (λ held. Answers held (job_of (bytes_of words.now)) (Err Fault.NotBuilt)) }
     ensures nothing_to_run { result.fault ≡ Some Fault.NothingToRun
@@ -80,7 +85,7 @@ pub fn snap_serial<F: Files, O: Sink>(
         × IfSome (F.held files.old) (λ held. Answers held (job_of (bytes_of words.now)) (Ok printed))
         × (O.written out.new ≡ appended (O.written out.old) printed) }
     ensures line { (f : Fault) → result.fault ≡ Some f → f ≢ Fault.Write → (name : List ℕ)
-        × (f ≡ Fault.Read → Contains (read_names (job_of (bytes_of words.now))) name)
+        × Names (job_of (bytes_of words.now)) f name
         × (O.written out.new ≡ appended (O.written out.old) (fault_line name f)) }
     ensures unwritten { result.fault ≡ Some Fault.Write → (HasRisen (O.faults out.old) (O.faults out.new) → ⊥) → (printed : List ℕ)
         × IfSome (F.held files.old) (λ held. Answers held (job_of (bytes_of words.now)) (Ok printed))
@@ -89,7 +94,7 @@ pub fn snap_serial<F: Files, O: Sink>(
         → Answers held (job_of (bytes_of words.now)) answer
         → (HasRisen (F.read_faults files.old) (F.read_faults files.new) → ⊥)
         → (HasRisen (F.write_faults files.old) (F.write_faults files.new) → ⊥)
-        → AppendsInPart (told_of [] answer) (O.written out.old) (O.written out.new)) }
+        → AppendsInPart (told_of (source_name (job_of (bytes_of words.now))) answer) (O.written out.old) (O.written out.new)) }
 
     // Whether or not the files tell: a verify that was done tells a number; where the words name no job
     // the sink gets a prefix of the line of refused words, and where a read failed one of that line.

@@ -4,8 +4,11 @@ ghost use Rattle.std.specs.Prelude.{IfOk};
 ghost use Rattle.snap_io.specs.NamedFile.{AreApart};
 
 use super::{number, sealed, words_of};
+use crate::fault::Fault;
+use crate::refused::{SourceFault, SourceRefused};
 use crate::serial::snap_serial;
 use snap_io::{Files, HonestFiles, HonestSink, MemFiles, MemSink, NamedFile};
+use snap_lex::LexFault;
 use std::alloc::{AllocError, Global};
 use std::process::Abort;
 use std::test::Fail;
@@ -205,10 +208,18 @@ const PRINTING: [(&str, &str, u8); 33] = [
         0,
     ),
     ("console.log(9007199254740991);", "9007199254740991\n", 0),
-    ("console.log(9007199254740992);", "not built\n", 11),
+    (
+        "console.log(9007199254740992);",
+        "source refused: s.js BigLiteral at 12\n",
+        3,
+    ),
     ("console.log(-1);", "not built\n", 11),
     ("console.log(0x10);", "not built\n", 11),
-    ("console.log(1.5);", "not built\n", 11),
+    (
+        "console.log(1.5);",
+        "source refused: s.js BadByte at 13\n",
+        3,
+    ),
     (
         "console\r.\nlog\r\n(\t1 )\r\n;console.log(2)\n;\r",
         "1\n2\n",
@@ -222,12 +233,16 @@ const PRINTING: [(&str, &str, u8); 33] = [
     ("globalThis.constructor = 1;", "not built\n", 11),
     ("console.log(globalThis.hasOwnProperty);", "not built\n", 11),
     ("console.log('\\n');", "not built\n", 11),
-    ("console.log('a", "not built\n", 11),
+    ("console.log('a", "source refused: s.js Unclosed at 12\n", 3),
     ("console.log(1)", "not built\n", 11),
     ("console.log(1);;", "not built\n", 11),
     ("console.log(1, 2);", "not built\n", 11),
     ("globalThis.x = globalThis.y;", "not built\n", 11),
-    ("console.log('\u{E4}');", "not built\n", 11),
+    (
+        "console.log('\u{E4}');",
+        "source refused: s.js BadByte at 13\n",
+        3,
+    ),
 ];
 
 #[test]
@@ -237,6 +252,25 @@ fn printed_lines(rt: HostRuntime) -> Result<(), Fail> {
         let built = blob_built(&rt, alloc, source.as_bytes(), line.as_bytes(), status)?;
         assert_eq!(rt; built.is_some(), status == 0, "{source}");
     }
+    Ok(())
+}
+
+/// A source that is refused is so under its place among the sources.
+#[test]
+fn refused_source(rt: HostRuntime) -> Result<(), Fail> {
+    let alloc = rt.alloc();
+    let words = words_of(alloc, &["build", "s.js"])?;
+    let mut files = HonestFiles::new(alloc, script_file(alloc, b"1; 08")?);
+    let mut out = HonestSink::new(alloc);
+    let outcome = snap_serial(alloc, &words, &mut files, &mut out, 0);
+    let why = SourceRefused::Parse(SourceFault::Lex(LexFault::BadByte(4)));
+    assert_eq!(rt; outcome.fault, Some(Fault::Source(0, why)));
+    assert_eq!(rt; outcome.status, 3);
+    assert_eq!(rt;
+        out.written(),
+        b"source refused: s.js BadByte at 4\n".as_slice()
+    );
+    assert_eq!(rt; files.held("snapshot.blob"), None);
     Ok(())
 }
 
@@ -258,7 +292,8 @@ fn longest_source(rt: HostRuntime) -> Result<(), Fail> {
     source.extend_from_slice(b"console.log(7);")?;
     assert!(rt; blob_built(&rt, alloc, &source, b"7\n", 0)?.is_some());
     source.push(b' ')?;
-    assert_eq!(rt; blob_built(&rt, alloc, &source, b"not built\n", 11)?, None);
+    let line = b"source refused: s.js TooLong at 1048576\n";
+    assert_eq!(rt; blob_built(&rt, alloc, &source, line, 3)?, None);
     Ok(())
 }
 

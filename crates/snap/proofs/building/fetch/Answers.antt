@@ -1,6 +1,5 @@
 use Rattle.std.proofs.Common.{refl, ap, Err}
 use Rattle.snap.specs.Making.{Fetched, TooLong}
-use Rattle.snap.proofs.Builds.{held_long}
 use Rattle.snap.proofs.building.fetch.Goals as goal
 
 pub returns-in-Ok : goal.returns-in-Ok
@@ -9,4 +8,4 @@ returns-in-Ok g c = Fetched c.in-Ok.bytes refl c.in-Ok.ensures.bytes c.in-Ok.ens
 pub returns-in-Err-TooLong : goal.returns-in-Err-TooLong
 returns-in-Err-TooLong g c =
     let count = rw c.in-Err-TooLong.field-0-is at c.in-Err-TooLong.ensures.count in
-    TooLong refl (held_long (g.F.Files.held c.args.files.now) c.args.source.now (c.in-Err-TooLong.ensures.too_long (ap Err c.in-Err-TooLong.field-0-is))) c.in-Err-TooLong.ensures.held (record { reads = count; writes = c.in-Err-TooLong.ensures.other_count })
+    TooLong refl (c.in-Err-TooLong.ensures.too_long (ap Err c.in-Err-TooLong.field-0-is)) c.in-Err-TooLong.ensures.held (record { reads = count; writes = c.in-Err-TooLong.ensures.other_count })

@@ -1,5 +1,5 @@
-use Rattle.std.proofs.Common.{refl, ap, sym, ◌∙◌, Err, List, ℕ}
-use Rattle.snap.specs.Answers.{ran}
+use Rattle.std.proofs.Common.{refl, ap, sym, ◌∙◌, List, ℕ}
+use Rattle.snap.specs.Answers.{entry_number, ran}
 use Rattle.snap.specs.Kept.{kept_globals}
 use Rattle.snap.proofs.Builds.{has_fetched}
 use Rattle.snap.proofs.RunsOn.{runs_printed, runs_unfetched, runs_unprinted}
@@ -13,11 +13,11 @@ returns-in-Err g c = runs_unfetched c.args.entry.now _ _ c.in-Err.fault _ c.in-E
 pub returns-in-Ok-print : goal.returns-in-Ok-print
 returns-in-Ok-print g c =
     let globals = kept_globals c.args.loaded.now.globals.items in
-    runs_printed c.args.entry.now globals _ c.in-Ok.bytes.items c.in-Ok-print.printed.items _ (has_fetched c.args.entry.now _ c.in-Ok.bytes c.in-Ok.ensures) (ap (λ (xs : List ℕ). ran xs globals) (sym c.deref.ensures.value) ∙ c.in-Ok-print.ensures.ok) refl
+    runs_printed c.args.entry.now globals _ c.in-Ok.bytes.items c.in-Ok-print.printed.items _ (has_fetched _ c.args.entry.now _ c.in-Ok.bytes c.in-Ok.ensures) (ap (λ (xs : List ℕ). ran entry_number xs globals) (sym c.deref.ensures.value) ∙ c.in-Ok-print.ensures.ok) refl
 
 -- src/running.rt:65:1
 pub returns : goal.returns
 returns g c =
     let globals = kept_globals c.args.loaded.now.globals.items in
-    runs_unprinted c.args.entry.now globals _ c.in-Ok.bytes.items c.in-Err-print.fault _ (has_fetched c.args.entry.now _ c.in-Ok.bytes c.in-Ok.ensures) c.in-Err-print.ensures.err
-    (λ e. ap (λ (xs : List ℕ). ran xs globals) (sym c.deref.ensures.value) ∙ c.in-Err-print.ensures.not_built (ap Err e)) c.refused-in-Err-print.ensures
+    runs_unprinted c.args.entry.now globals _ c.in-Ok.bytes.items c.in-Err-print.fault _ (has_fetched _ c.args.entry.now _ c.in-Ok.bytes c.in-Ok.ensures)
+    (λ fed. ap (λ (xs : List ℕ). ran entry_number xs globals) (sym c.deref.ensures.value) ∙ c.in-Err-print.ensures.refused c.in-Err-print.fault refl fed) c.refused-in-Err-print.ensures

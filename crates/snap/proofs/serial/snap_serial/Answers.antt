@@ -1,4 +1,5 @@
 use Rattle.snap.proofs.Clauses.{line_told, may_leave, only_defined, prefix_defined, read_line_told, read_told, sink_failed, told_defined, verify_told, whole_or_kept, words_told}
+use Rattle.snap.proofs.Causes.{source_told}
 use Rattle.snap.proofs.serial.snap_serial.Goals as goal
 
 pub returns-clause-told : goal.returns-clause-told
@@ -6,6 +7,9 @@ returns-clause-told g c = rw (← c.job_of-job.ensures) (told_defined _ _ _ c.te
 
 pub returns-clause-only : goal.returns-clause-only
 returns-clause-only g c = rw (← c.job_of-job.ensures) (only_defined _ _ _ c.tell-fault.result _ c.answer_of-said.ensures.comes c.tell-fault.ensures)
+
+pub returns-clause-source : goal.returns-clause-source
+returns-clause-source g c = rw (← c.job_of-job.ensures) (source_told _ _ _ c.tell-fault.result _ c.answer_of-said.ensures.comes c.tell-fault.ensures)
 
 pub returns-clause-line : goal.returns-clause-line
 returns-clause-line g c = rw (← c.job_of-job.ensures) (line_told _ _ _ c.tell-fault.result _ c.answer_of-said.ensures.comes c.tell-fault.ensures)
