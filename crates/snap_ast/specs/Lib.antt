@@ -1,0 +1,4 @@
+pub mod Children
+pub mod Edges
+pub mod Lawful
+pub mod Words

@@ -1,0 +1,16 @@
+//! Syntax trees of scripts: a table of nodes in preorder, each with its production.
+#![tactic(auto)]
+
+mod form;
+mod items;
+mod laws;
+mod operator;
+mod part;
+mod tree;
+
+pub use form::Form;
+pub use items::Items;
+pub use laws::{nodes_are_lawful, nodes_have_one_parent};
+pub use operator::{AssignOperator, BinaryOperator, UnaryOperator, UpdateOperator};
+pub use part::{Binding, ConstBinding, Named, Property, PropertyKey};
+pub use tree::{Tree, TreeNode};

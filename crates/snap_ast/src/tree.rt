@@ -1,0 +1,36 @@
+//! A syntax tree as a table of nodes.
+
+use crate::form::Form;
+use crate::items::Items;
+
+/// A node of a tree: a statement or an expression.
+#[derive(Debug, Drop)]
+pub struct TreeNode {
+    /// Its production and its children.
+    pub form: Form,
+    /// The place in the source of the first byte of its phrase, of a parenthesis too.
+    pub at: u32,
+}
+
+/// A syntax tree. Its nodes are numbered from 0 in preorder, children in the order of the source.
+#[derive(Debug, Drop)]
+pub struct Tree {
+    /// The nodes by their numbers.
+    pub nodes: Items<TreeNode>,
+    /// The numbers of the statements of the script, in order.
+    pub top: Items<u32>,
+}
+
+#[cfg(test)]
+mod tests {
+    use super::*;
+    use std::mem::size_of;
+    use std::test::Fail;
+
+    #[test]
+    fn is_small(rt: HostRuntime) -> Result<(), Fail> {
+        assert_eq!(rt; size_of::<Form>(), 64);
+        assert_eq!(rt; size_of::<TreeNode>(), 72);
+        Ok(())
+    }
+}

@@ -1,0 +1,14 @@
+pub mod Grammar
+pub mod Nodes
+pub mod Numbered
+pub mod Operators
+pub mod Outcome
+pub mod Parts
+pub mod Phrase
+pub mod Read
+pub mod ReadExpressions
+pub mod ReadLists
+pub mod ReadStatements
+pub mod Sign
+pub mod Source
+pub mod Worked
