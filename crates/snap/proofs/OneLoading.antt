@@ -9,8 +9,7 @@ use Rattle.snap.specs.declared.fault.Fault.{Fault}
 use Rattle.snap.specs.declared.fault.Fault.TheVariants as fault
 use Rattle.snap.specs.declared.parts.Parts.{Parts}
 use Rattle.snap.specs.Kept.{AreApart}
-use Rattle.snap.specs.Parts.{HasNoParts, HasOthers, HasParts}
-use Rattle.snap.specs.Parts as parts
+use Rattle.snap.specs.Parts.{HasNoParts, HasParts}
 use Rattle.snap.specs.Thin.{Globals}
 use Rattle.snap.specs.ThinBlob.{IsOther, IsThin, Loads}
 use Rattle.snap.specs.ThinBlob as blob
@@ -44,15 +43,9 @@ pub parts_apart : (bytes : List ℕ) (p : Parts) (globals : Globals) → HasPart
 parts_apart bytes p globals has thin =
     thin_apart (strings_of (section_of p.strings)) p.startup.now p.context.now globals (subst AreStrings (sym (ap strings_of has.strings)) has.lawful) thin
 
--- a blob with other parts is no thin blob
-others : (bytes : List ℕ) → HasOthers bytes → IsOther bytes
-others bytes (parts.Sections hold other) = blob.Sections hold other
-others bytes (parts.Externals hold other) = blob.Externals hold other
-others bytes (parts.Nodes hold long other) = blob.Nodes hold long other
-
 pub no_parts : (bytes : List ℕ) (f : Fault) → HasNoParts bytes f → Loads bytes (Err f)
 no_parts bytes (fault.Blob f) h = h
-no_parts bytes fault.NotBuilt h = others bytes h
+no_parts bytes fault.NotBuilt h = blob.Others h
 no_parts bytes (fault.Source number why) h = h
 no_parts bytes fault.Words h = h
 no_parts bytes fault.Read h = h
@@ -64,13 +57,13 @@ no_parts bytes fault.NoMemory h = h
 
 -- a blob that is refused is no other
 refused_other : (bytes : List ℕ) (f : BlobFault) → IsRefused bytes f → IsOther bytes → ⊥
-refused_other bytes f (AtContainer p) (blob.Sections hold other) = no_fault (container_checks bytes) f hold p
-refused_other bytes f (AtContainer p) (blob.Externals hold other) = no_fault (container_checks bytes) f hold p
-refused_other bytes f (AtContainer p) (blob.Nodes hold long other) = no_fault (container_checks bytes) f hold p
+refused_other bytes f (AtContainer p) (blob.Others (blob.Sections hold other)) = no_fault (container_checks bytes) f hold p
+refused_other bytes f (AtContainer p) (blob.Others (blob.Externals hold other)) = no_fault (container_checks bytes) f hold p
+refused_other bytes f (AtContainer p) (blob.Others (blob.Nodes hold long other)) = no_fault (container_checks bytes) f hold p
 refused_other bytes f (AtContainer p) (blob.Unlike hold strings none) = no_fault (container_checks bytes) f hold p
-refused_other bytes f (AtStrings held plain p) (blob.Sections hold other) = other plain.sections
-refused_other bytes f (AtStrings held plain p) (blob.Externals hold other) = other plain.externals
-refused_other bytes f (AtStrings held plain p) (blob.Nodes hold long other) = other (plain.nodes long)
+refused_other bytes f (AtStrings held plain p) (blob.Others (blob.Sections hold other)) = other plain.sections
+refused_other bytes f (AtStrings held plain p) (blob.Others (blob.Externals hold other)) = other plain.externals
+refused_other bytes f (AtStrings held plain p) (blob.Others (blob.Nodes hold long other)) = other (plain.nodes long)
 refused_other bytes f (AtStrings held plain p) (blob.Unlike hold strings none) = no_fault (strings_checks bytes) f strings p
 
 -- a thin blob is not refused
@@ -80,9 +73,9 @@ thin_sound bytes globals f thin (AtStrings hold plain p) = no_fault (strings_che
 
 -- and it is no other
 thin_built : (bytes : List ℕ) (globals : Globals) → IsThin bytes globals → IsOther bytes → ⊥
-thin_built bytes globals thin (blob.Sections hold other) = other thin.denotes.plain.sections
-thin_built bytes globals thin (blob.Externals hold other) = other thin.denotes.plain.externals
-thin_built bytes globals thin (blob.Nodes hold long other) = other (thin.denotes.plain.nodes long)
+thin_built bytes globals thin (blob.Others (blob.Sections hold other)) = other thin.denotes.plain.sections
+thin_built bytes globals thin (blob.Others (blob.Externals hold other)) = other thin.denotes.plain.externals
+thin_built bytes globals thin (blob.Others (blob.Nodes hold long other)) = other (thin.denotes.plain.nodes long)
 thin_built bytes globals thin (blob.Unlike hold strings none) = none globals thin
 
 -- a run finds one thing in a blob

@@ -8,6 +8,7 @@ use Rattle.snap.specs.declared.fault.Fault.{Fault}
 use Rattle.snap.specs.declared.fault.Fault.TheVariants as fault
 use Rattle.snap.specs.declared.parts.Parts.{Parts}
 use Rattle.snap.specs.Plain.{IsPlain, IsRefused, strings_checks}
+use Rattle.snap.specs.ThinBlob.{HasOthers}
 
 -- the blob has no fault down to its strings, and these parts
 pub record HasParts (bytes : List ℕ) (parts : Parts) : Type 0 where
@@ -20,12 +21,6 @@ pub record HasParts (bytes : List ℕ) (parts : Parts) : Type 0 where
   pub startup_short : length parts.startup.now ≤ 67108864
   pub context : parts.context.now ≡ section bytes 3
   pub context_short : length parts.context.now ≤ 67108864
-
--- a container without a fault has other sections than those, externals or nodes
-pub data HasOthers (bytes : List ℕ) : Type 0 where
-  Sections : AllHold (container_checks bytes) → section_count bytes ≢ 4 → HasOthers bytes
-  Externals : AllHold (container_checks bytes) → section bytes 0 ≢ 0 ∷ [] → HasOthers bytes
-  Nodes : AllHold (container_checks bytes) → 8 ≤ length (section bytes 1) → node_count (section bytes 1) ≢ 0 → HasOthers bytes
 
 -- why a blob has not these parts
 abbrev pub HasNoParts : List ℕ → Fault → Type 0

@@ -47,11 +47,15 @@ pub record IsThin (bytes : List ℕ) (globals : Globals) : Type 0 where
   pub thin_source : thin_script script ≡ Some statements
   pub thin_globals : All IsThinGlobal globals
 
+-- a container without a fault has other sections than a thin blob, externals or nodes
+pub data HasOthers (bytes : List ℕ) : Type 0 where
+  Sections : AllHold (container_checks bytes) → section_count bytes ≢ 4 → HasOthers bytes
+  Externals : AllHold (container_checks bytes) → section bytes 0 ≢ 0 ∷ [] → HasOthers bytes
+  Nodes : AllHold (container_checks bytes) → 8 ≤ length (section bytes 1) → node_count (section bytes 1) ≢ 0 → HasOthers bytes
+
 -- a container without a fault is not that of a thin blob
 pub data IsOther (bytes : List ℕ) : Type 0 where
-  Sections : AllHold (container_checks bytes) → section_count bytes ≢ 4 → IsOther bytes
-  Externals : AllHold (container_checks bytes) → section bytes 0 ≢ 0 ∷ [] → IsOther bytes
-  Nodes : AllHold (container_checks bytes) → 8 ≤ length (section bytes 1) → node_count (section bytes 1) ≢ 0 → IsOther bytes
+  Others : HasOthers bytes → IsOther bytes
   Unlike : AllHold (container_checks bytes) → AllHold (strings_checks bytes) → ((globals : Globals) → IsThin bytes globals → ⊥) → IsOther bytes
 
 -- what a run finds in the bytes of a blob: the globals, or why there are none

@@ -38,8 +38,6 @@ pub struct Kept {
 /// What a run finds in a blob.
 #[derive(Debug, Drop)]
 pub struct Loaded {
-    /// How many strings the blob has.
-    pub strings: u32,
     /// The globals, in order.
     pub globals: Vec<Kept>,
 }

@@ -2,9 +2,8 @@
 
 ghost use Rattle.std.specs.Prelude.{◌≡◌, ◌≢◌, ◌≤◌, ◌<◌, ◌^◌, ℕ, All, List, Result, Ok, Err, length, map, IfOk, IfSome, IfNone, MatchOption};
 ghost use Rattle.std.specs.Option.{is_some};
-ghost use Rattle.spec_format.specs.Container.{section};
 ghost use Rattle.spec_format.specs.Shapes.{AreLawful};
-ghost use Rattle.spec_format.specs.Strings.{AreStrings, string_count, strings_of};
+ghost use Rattle.spec_format.specs.Strings.{AreStrings, strings_of};
 ghost use Rattle.spec_sections.specs.Properties.{DenotesGlobal};
 ghost use Rattle.snap_blob.specs.RoStrings.{section_of};
 ghost use Rattle.snap_blob.specs.Steps.{pair_of};
@@ -29,19 +28,17 @@ use snap_graph::Property;
 use snap_text::Units;
 use std::alloc::Global;
 
-/// The number of strings of a thin blob and its globals, or why it is none.
+/// The globals of a thin blob, or why it is none.
 pub(crate) fn load(alloc: Global, bytes: &[u8]) -> Result<Loaded, Fault>
     ensures loads { result ≢ Err Fault.NoMemory → Loads bytes.now (globals_in result) }
-    ensures strings { IfOk result (λ loaded. loaded.strings ≡ string_count (section bytes.now 1)) }
     ensures apart { IfOk result (λ loaded. AreApart (kept_globals loaded.globals.items)) }
 {
     let parts = match parts_of(bytes) {
         Ok(parts) => parts,
         Err(fault) => return Err(fault),
     };
-    let strings = parts.strings.strings();
     match globals_of_parts(alloc, &parts) {
-        Ok(Some(globals)) => Ok(Loaded { strings, globals }),
+        Ok(Some(globals)) => Ok(Loaded { globals }),
         Ok(None) => Err(Fault::NotBuilt),
         Err(_) => Err(Fault::NoMemory),
     }

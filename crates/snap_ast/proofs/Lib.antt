@@ -1,2 +1,4 @@
+pub mod Tables
 pub mod Extents
 pub mod Parents
+pub mod Chains

@@ -3,14 +3,12 @@ use Rattle.std.proofs.Common.{◌≡◌, ℕ, zero, suc, ◌≤◌, ◌<◌, ◌
 use Rattle.std.specs.Prelude.{Some, slice_get}
 use Rattle.std.proofs.lemmas.Option.{slice_get_within}
 use Rattle.snap_ast.proofs.Extents.{Extent, among_bounds, each_child, ends_before, extent_in, extent_through, le_or_lt, span_grows}
+use Rattle.snap_ast.proofs.Tables.{same_node}
 use Rattle.snap_ast.specs.Children.{Child, children, statement}
 use Rattle.snap_ast.specs.Edges.{HasParent, IsAmong, IsLawfulNode, IsParent, IsTop}
 use Rattle.snap_ast.specs.Lawful.{Follow, Lawful, Spans, most_levels}
 use Rattle.snap_ast.specs.declared.tree.Tree.{Tree}
 use Rattle.snap_ast.specs.declared.tree.TreeNode.{TreeNode}
-
-same_node : (nodes : List TreeNode) (number : ℕ) (node other : TreeNode) → slice_get nodes number ≡ Some node → slice_get nodes number ≡ Some other → node ≡ other
-same_node nodes number node other e d = cc
 
 -- a node of a lawful tree
 tree_extent : (tree : Tree) (number : ℕ) → Lawful tree → number < length tree.nodes → Extent tree.nodes number (length tree.nodes)

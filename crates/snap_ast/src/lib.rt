@@ -6,6 +6,7 @@ mod items;
 mod laws;
 mod operator;
 mod part;
+mod rows;
 mod tree;
 
 pub use form::Form;
@@ -13,4 +14,5 @@ pub use items::Items;
 pub use laws::{nodes_are_lawful, nodes_have_one_parent};
 pub use operator::{AssignOperator, BinaryOperator, UnaryOperator, UpdateOperator};
 pub use part::{Binding, ConstBinding, Named, Property, PropertyKey};
+pub use rows::{worked_levels, worked_unlawful};
 pub use tree::{Tree, TreeNode};

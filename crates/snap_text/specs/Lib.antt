@@ -1,2 +1,4 @@
+pub mod Keys
+pub mod OwnKeys
 pub mod StrView
 pub mod Utf8

@@ -1,6 +1,7 @@
 -- The tree of a source is lawful.
 use Rattle.std.proofs.Common.{◌∙◌, ◌≡◌, ℕ, suc, ◌+◌, ◌≤◌, List, [], ◌∷◌, ◌++◌, append_assoc, length, map, slice_get, refl, sym, ap, subst, arith, length-append}
 use Rattle.std.specs.Prelude.{Some}
+use Rattle.snap_ast.proofs.Tables.{get_seam}
 use Rattle.snap_ast.specs.Children.{Child, statement}
 use Rattle.snap_ast.specs.Lawful.{Follow, Lawful, Spans, most_levels}
 use Rattle.snap_ast.specs.declared.tree.Tree.{Tree}
@@ -27,10 +28,6 @@ script_is (g.ScriptMore {row = row} d t) below right =
 numbered_len : (at : ℕ) (nodes : List TreeNode) → length (numbered at nodes) ≡ length nodes
 numbered_len at [] = refl
 numbered_len at (node ∷ nodes) = ap suc (numbered_len (suc at) nodes)
-
-get_seam : (before : List TreeNode) (node : TreeNode) (behind : List TreeNode) → slice_get (before ++ node ∷ behind) (length before) ≡ Some node
-get_seam [] node behind = refl
-get_seam (first ∷ before) node behind = get_seam before node behind
 
 -- nodes with their numbers stand behind those before them
 stands_behind : (nodes before : List TreeNode) (at : ℕ) (part : List TreeNode) → nodes ≡ before ++ numbered at part → at ≡ length before → Stands nodes at part

@@ -1,15 +1,11 @@
 -- What the context section of a global object means: its properties, in order.
-use Rattle.std.specs.Prelude.{◌≡◌, ℕ, ◌+◌, ◌<◌, ◌≤◌, ◌^◌, ℤ, pos, negsuc, All, Contains, List, map, Some, slice_get}
+use Rattle.std.specs.Prelude.{◌≡◌, ℕ, ◌≤◌, All, Contains, List, map, Some, slice_get}
 use Rattle.snap_graph.specs.declared.value.Value.{Value}
 use Rattle.snap_graph.specs.declared.value.Value.TheVariants.{Undefined, Null, Bool, Int, Text, Node, Empty}
 use Rattle.snap_graph.specs.declared.value.Property.{Property}
+pub use Rattle.snap_graph.specs.Values.{IsSafe}
 use Rattle.spec_format.specs.Shapes.{HasKeys}
 use Rattle.spec_sections.specs.Global.{global_node, global_section}
-
--- an integer from -(2^53 - 1) to 2^53 - 1
-abbrev pub IsSafe : ℤ → Type 0
-IsSafe (pos n) = n < 2 ^ 53
-IsSafe (negsuc n) = n + 1 < 2 ^ 53
 
 -- what a global object may hold: a safe integer, one of the strings, an intrinsic or the global object itself, and the
 -- four values that are spelled without a number; the mark of an empty slot is no value

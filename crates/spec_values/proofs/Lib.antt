@@ -1,0 +1,14 @@
+pub mod Altered
+pub mod Changes
+pub mod Elements
+pub mod Ending
+pub mod Holding
+pub mod Keeping
+pub mod Made
+pub mod Naming
+pub mod Reading
+pub mod Results
+pub mod Sameness
+pub mod Standing
+pub mod Using
+pub mod Writing

@@ -1,0 +1,256 @@
+-- Reading, writing and deleting a property (ECMA-262, 10.1.8 to 10.1.10, 10.4.2 and 10.4.3), and what this profile stops at.
+use Rattle.std.specs.Prelude.{ℕ, ◌==◌, ◌&&◌, ◌||◌, ℤ, pos, negsuc, Bool, true, false, nat_lt, count_by, List, [], ◌∷◌, codes, length, slice_get, Option, None, Some, is_some, unwrap_or, if◌then◌else◌, Result, Ok, Err}
+use Rattle.std.specs.Option.{option_and_then}
+use Rattle.std.specs.Str.{bytes_eq as text_eq}
+use Rattle.snap_base.specs.declared.stop.Stop.{Stop}
+use Rattle.snap_base.specs.declared.stop.Stop.TheVariants.{NotInProfile}
+use Rattle.snap_graph.specs.declared.kind.Kind.{Kind}
+use Rattle.snap_graph.specs.declared.kind.Kind.TheVariants as kind
+use Rattle.snap_graph.specs.declared.node.Node.{Node}
+use Rattle.snap_graph.specs.declared.value.Value.{Value}
+use Rattle.snap_graph.specs.declared.value.Value.TheVariants.{Undefined, Null, Bool as Truth, Int, Text, Node as At, Empty}
+use Rattle.snap_graph.specs.Lawful.{chain_from, record_keys}
+use Rattle.snap_graph.specs.OwnKeys.{array_index, index_end}
+use Rattle.spec_values.specs.Answer.{◌>>=◌, Action, Gave, give, stop, throw_value, use_key}
+use Rattle.spec_values.specs.Conversions.{text_of}
+use Rattle.spec_values.specs.Operations.{elements_of, is_frozen, make, own_value, push_element, put_own, with_element, with_nodes, without_own}
+
+-- a result, or a stop
+abbrev pub or_stop : {A : Type 0} → Result A Stop → Action A
+or_stop (Ok result) = give result
+or_stop (Err why) = stop why
+
+-- an error is made, given its message, whose key is used, and thrown (20.5.1.1); its prototype tells its kind
+abbrev pub throw_error : {A : Type 0} → ℕ → List ℕ → Action A
+throw_error prototype message =
+    make kind.Error (At prototype) >>= λ error.
+    use_key (codes "message") >>= λ _.
+    put_own error (codes "message") (Text message) >>= λ _.
+    throw_value (At error)
+
+abbrev pub type_error : {A : Type 0} → List ℕ → Action A
+type_error message = throw_error 7 message
+
+abbrev pub not_writable : {A : Type 0} → Action A
+not_writable = type_error (codes "not writable")
+
+abbrev pub no_properties : {A : Type 0} → Action A
+no_properties = type_error (codes "no properties")
+
+-- the key of a property is the text of a value; it is used, and `__proto__` is not in this profile
+abbrev pub named_key : Value → Action (List ℕ)
+named_key key =
+    or_stop (text_of key) >>= λ name.
+    use_key name >>= λ _.
+    if text_eq name (codes "__proto__") then stop NotInProfile else give name
+
+-- the array index that a key is, as an integer or as its text
+abbrev pub number_index : ℤ → Option ℕ
+number_index (pos n) = if nat_lt n index_end then Some n else None
+number_index (negsuc n) = None
+
+abbrev pub index_of : Value → Option ℕ
+index_of Undefined = None
+index_of Null = None
+index_of (Truth b) = None
+index_of (Int z) = number_index z
+index_of (Text text) = array_index text
+index_of (At node) = None
+index_of Empty = None
+
+-- the kind of a node
+abbrev pub kind_of : List Node → ℕ → Option Kind
+kind_of nodes number = option_and_then (λ node. Some node.kind) (slice_get nodes number)
+
+abbrev pub is_array : Option Kind → Bool
+is_array None = false
+is_array (Some kind.Plain) = false
+is_array (Some kind.Array) = true
+is_array (Some (kind.Function script tree)) = false
+is_array (Some (kind.Native native)) = false
+is_array (Some (kind.Scope scope)) = false
+is_array (Some kind.Error) = false
+is_array (Some kind.Map) = false
+is_array (Some kind.Set) = false
+is_array (Some (kind.Resource number closed)) = false
+
+-- the element that a key names, which is an array's alone
+abbrev pub element_of : List Node → ℕ → Value → Option ℕ
+element_of nodes number key = if is_array (kind_of nodes number) then index_of key else None
+
+-- the keys of a function, a built-in function or an error that are not in this profile
+abbrev pub is_special : Option Kind → List ℕ → Bool
+is_special None name = false
+is_special (Some kind.Plain) name = false
+is_special (Some kind.Array) name = false
+is_special (Some (kind.Function script tree)) name = text_eq name (codes "name") || text_eq name (codes "length") || text_eq name (codes "prototype")
+is_special (Some (kind.Native native)) name = text_eq name (codes "name") || text_eq name (codes "length")
+is_special (Some (kind.Scope scope)) name = false
+is_special (Some kind.Error) name = text_eq name (codes "stack")
+is_special (Some kind.Map) name = false
+is_special (Some kind.Set) name = false
+is_special (Some (kind.Resource number closed)) name = false
+
+-- `size` of Map.prototype and Set.prototype, which ECMA-262 has as accessors (24.1.3.10 and 24.2.3.9)
+abbrev pub is_size : ℕ → List ℕ → Bool
+is_size number name = (number == 4 || number == 5) && text_eq name (codes "size")
+
+-- `length` of an array
+abbrev pub is_length : List Node → ℕ → List ℕ → Bool
+is_length nodes number name = is_array (kind_of nodes number) && text_eq name (codes "length")
+
+-- a node, and then those along its prototypes
+abbrev pub reached_from : List Node → ℕ → List ℕ
+reached_from nodes number = number ∷ unwrap_or (option_and_then (λ node. chain_from nodes node.prototype) (slice_get nodes number)) []
+
+-- how many records there are that were not removed
+abbrev pub is_there : Value → Bool
+is_there Undefined = true
+is_there Null = true
+is_there (Truth b) = true
+is_there (Int z) = true
+is_there (Text text) = true
+is_there (At node) = true
+is_there Empty = false
+
+-- the number of entries of a Map for Map.prototype, node 4, and of a Set for Set.prototype, node 5
+abbrev pub entry_count : ℕ → Option Kind → List Value → Option ℕ
+entry_count prototype None elements = None
+entry_count prototype (Some kind.Plain) elements = None
+entry_count prototype (Some kind.Array) elements = None
+entry_count prototype (Some (kind.Function script tree)) elements = None
+entry_count prototype (Some (kind.Native native)) elements = None
+entry_count prototype (Some (kind.Scope scope)) elements = None
+entry_count prototype (Some kind.Error) elements = None
+entry_count prototype (Some kind.Map) elements = if prototype == 4 then Some (count_by is_there (record_keys elements)) else None
+entry_count prototype (Some kind.Set) elements = if prototype == 5 then Some (count_by is_there elements) else None
+entry_count prototype (Some (kind.Resource number closed)) elements = None
+
+abbrev pub size_or_throw : Option ℕ → Action Value
+size_or_throw None = type_error (codes "wrong receiver")
+size_or_throw (Some n) = give (Int (pos n))
+
+-- the size of a base, read at one of the two prototypes
+abbrev pub size_of : ℕ → Value → Action Value
+size_of prototype Undefined = size_or_throw None
+size_of prototype Null = size_or_throw None
+size_of prototype (Truth b) = size_or_throw None
+size_of prototype (Int z) = size_or_throw None
+size_of prototype (Text text) = size_or_throw None
+size_of prototype (At base) = λ heap. size_or_throw (entry_count prototype (kind_of heap.nodes base) (elements_of heap.nodes base)) heap
+size_of prototype Empty = size_or_throw None
+
+-- what is found at a node, or further along the prototypes
+abbrev pub found_or : Option Value → Action Value → Action Value
+found_or None further = further
+found_or (Some held) further = give held
+
+-- looking a key up along nodes, for a base
+abbrev pub look_up : Value → List ℕ → List ℕ → Action Value
+look_up base name [] = give Undefined
+look_up base name (number ∷ rest) = λ heap.
+    (if is_special (kind_of heap.nodes number) name then stop NotInProfile
+    else (if is_size number name then size_of number base
+    else found_or (own_value heap.nodes number name) (look_up base name rest))) heap
+
+-- an element, or undefined where there is none
+abbrev pub element_or_undefined : List Value → ℕ → Value
+element_or_undefined elements place = unwrap_or (slice_get elements place) Undefined
+
+-- the text of one unit, or undefined where there is none
+abbrev pub unit_or_undefined : Option ℕ → Value
+unit_or_undefined None = Undefined
+unit_or_undefined (Some unit) = Text (unit ∷ [])
+
+-- reading from a text (10.4.3.5): its units, its length, and otherwise along String.prototype, node 3
+abbrev pub get_of_text : List ℕ → Value → Option ℕ → Action Value
+get_of_text text key (Some place) = give (unit_or_undefined (slice_get text place))
+get_of_text text key None =
+    named_key key >>= λ name. λ heap.
+    (if text_eq name (codes "length") then give (Int (pos (length text))) else look_up (Text text) name (reached_from heap.nodes 3)) heap
+
+-- reading from a node: an element of an array, its length, and otherwise along the prototypes
+abbrev pub get_of_node : ℕ → Value → Option ℕ → Action Value
+get_of_node number key (Some place) = λ heap. give (element_or_undefined (elements_of heap.nodes number) place) heap
+get_of_node number key None =
+    named_key key >>= λ name. λ heap.
+    (if is_length heap.nodes number name then give (Int (pos (length (elements_of heap.nodes number))))
+    else look_up (At number) name (reached_from heap.nodes number)) heap
+
+-- reading a property (13.3.2 and 6.2.5.5, GetValue)
+abbrev pub get : Value → Value → Action Value
+get Undefined key = no_properties
+get Null key = no_properties
+get (Truth b) key = named_key key >>= λ _. stop NotInProfile
+get (Int z) key = named_key key >>= λ _. stop NotInProfile
+get (Text text) key = get_of_text text key (index_of key)
+get (At number) key = λ heap. get_of_node number key (element_of heap.nodes number key) heap
+get Empty key = stop NotInProfile
+
+-- whether a write of a key may go on, looking along nodes: a frozen node that has it, and `size`, refuse it (10.1.9.2)
+abbrev pub may_write : List ℕ → List ℕ → Action Unit
+may_write name [] = give tt
+may_write name (number ∷ rest) = λ heap.
+    (if is_special (kind_of heap.nodes number) name then stop NotInProfile
+    else (if is_size number name then not_writable
+    else (if is_some (own_value heap.nodes number name) then (if is_frozen heap.nodes number then not_writable else give tt)
+    else may_write name rest))) heap
+
+-- an element of an array is written, or added behind the last one
+abbrev pub set_element_of : ℕ → ℕ → Value → Action Unit
+set_element_of number place held heap =
+    let count = length (elements_of heap.nodes number) in
+    (if is_frozen heap.nodes number then not_writable
+    else (if nat_lt place count then (λ h. Gave tt (with_nodes h (with_element h.nodes number place held)))
+    else (if place == count then push_element number held else stop NotInProfile))) heap
+
+-- a property of a node is written, or created
+abbrev pub set_named : ℕ → List ℕ → Value → Action Unit
+set_named number name held heap =
+    (if is_length heap.nodes number name then (if is_frozen heap.nodes number then not_writable else stop NotInProfile)
+    else (may_write name (reached_from heap.nodes number) >>= λ _. λ h.
+    (if is_frozen h.nodes number then not_writable else put_own number name held) h)) heap
+
+abbrev pub set_of_node : ℕ → Value → Value → Option ℕ → Action Unit
+set_of_node number key held (Some place) = set_element_of number place held
+set_of_node number key held None = named_key key >>= λ name. set_named number name held
+
+-- a text has no property that could be written; an index is no use of a key
+abbrev pub set_of_text : Value → Option ℕ → Action Unit
+set_of_text key (Some place) = not_writable
+set_of_text key None = named_key key >>= λ _. not_writable
+
+-- writing a property (6.2.5.6, PutValue)
+abbrev pub set : Value → Value → Value → Action Unit
+set Undefined key held = no_properties
+set Null key held = no_properties
+set (Truth b) key held = named_key key >>= λ _. not_writable
+set (Int z) key held = named_key key >>= λ _. not_writable
+set (Text text) key held = set_of_text key (index_of key)
+set (At number) key held = λ heap. set_of_node number key held (element_of heap.nodes number key) heap
+set Empty key held = stop NotInProfile
+
+-- a property of a node is deleted; deleting what is not there is no fault
+abbrev pub delete_named : ℕ → List ℕ → Action Bool
+delete_named number name heap =
+    (if is_special (kind_of heap.nodes number) name || is_length heap.nodes number name then stop NotInProfile
+    else (if is_size number name || (is_some (own_value heap.nodes number name) && is_frozen heap.nodes number) then not_writable
+    else (λ h. Gave true (with_nodes h (without_own h.nodes number name))))) heap
+
+abbrev pub delete_of_node : ℕ → Value → Option ℕ → Action Bool
+delete_of_node number key (Some place) = stop NotInProfile
+delete_of_node number key None = named_key key >>= λ name. delete_named number name
+
+abbrev pub delete_of_text : Value → Option ℕ → Action Bool
+delete_of_text key (Some place) = stop NotInProfile
+delete_of_text key None = named_key key >>= λ _. stop NotInProfile
+
+-- deleting a property (13.5.1)
+abbrev pub delete : Value → Value → Action Bool
+delete Undefined key = no_properties
+delete Null key = no_properties
+delete (Truth b) key = named_key key >>= λ _. stop NotInProfile
+delete (Int z) key = named_key key >>= λ _. stop NotInProfile
+delete (Text text) key = delete_of_text key (index_of key)
+delete (At number) key = λ heap. delete_of_node number key (element_of heap.nodes number key) heap
+delete Empty key = stop NotInProfile
