@@ -1,0 +1,5 @@
+//! Tests of what no clause says.
+
+mod beside_node;
+mod limits;
+mod samples;
