@@ -1,0 +1,31 @@
+use Rattle.std.proofs.Common.{rules, arith}
+use Rattle.std.proofs.lemmas.Grind.{common_steps}
+use Rattle.spec_grammar.specs.Outcome.{expect}
+use Rattle.spec_grammar.specs.Read.{phrase}
+use Rattle.spec_grammar.specs.ReadExpressions.{chain_from}
+use Rattle.snap_parse.proofs.Turns.{one_more, no_more}
+use Rattle.snap_parse.proofs.grammar.Grammar.chain.Goals as goal
+
+pub returns-in_default : goal.returns-in_default
+unfolding chain_from expect
+returns-in_default g c =
+    let e = one_more (λ n. chain_from (phrase c.args.self.now.room) c.args.self.now.room c.args.level n c.loop-turn.left c.loop-turn.cursor) _ c.loop-turn._turn c.loop-turn-test.true c.loop-turn.invariant in
+    first_of (search rules, grind (arith, common_steps))
+
+pub returns-in_err-left : goal.returns-in_err-left
+unfolding chain_from expect
+returns-in_err-left g c =
+    let e = one_more (λ n. chain_from (phrase c.args.self.now.room) c.args.self.now.room c.args.level n c.loop-turn.left c.loop-turn.cursor) _ c.loop-turn._turn c.loop-turn-test.true c.loop-turn.invariant in
+    first_of (search rules, grind (arith, common_steps))
+
+pub loop-turn-preserved : goal.loop-turn-preserved
+unfolding chain_from expect
+loop-turn-preserved g c =
+    let e = one_more (λ n. chain_from (phrase c.args.self.now.room) c.args.self.now.room c.args.level n c.loop-turn.left c.loop-turn.cursor) _ c.loop-turn._turn c.loop-turn-test.true c.loop-turn.invariant in
+    first_of (search rules, grind (arith, common_steps))
+
+pub returns : goal.returns
+unfolding chain_from expect
+returns g c =
+    let e = no_more (λ n. chain_from (phrase c.args.self.now.room) c.args.self.now.room c.args.level n c.loop-turn.left c.loop-turn.cursor) _ c.loop-turn._turn c.loop-turn-test.false c.loop-turn.invariant in
+    first_of (search rules, grind (arith, common_steps))

@@ -1,0 +1,47 @@
+use Rattle.std.proofs.Common.{rules, arith}
+use Rattle.std.proofs.lemmas.Grind.{common_steps}
+use Rattle.spec_grammar.specs.Outcome.{expect}
+use Rattle.spec_grammar.specs.Read.{phrase}
+use Rattle.spec_grammar.specs.ReadLists.{list, list_from}
+use Rattle.snap_parse.proofs.Turns.{one_more, no_more}
+use Rattle.snap_parse.proofs.grammar.Grammar.list.Goals as goal
+
+pub loop-turn-init : goal.loop-turn-init
+unfolding list
+loop-turn-init g c = first_of (search rules, grind (arith, common_steps))
+
+pub returns-then-sees : goal.returns-then-sees
+unfolding list_from expect
+returns-then-sees g c =
+    let e = one_more (λ n. list_from (phrase c.args.self.now.room) c.args.close n c.loop-turn.row c.loop-turn.cursor) _ c.loop-turn._turn c.loop-turn-test.true c.loop-turn.invariant in
+    first_of (search rules, grind (arith, common_steps))
+
+pub returns-in_err-item : goal.returns-in_err-item
+unfolding list_from expect
+returns-in_err-item g c =
+    let e = one_more (λ n. list_from (phrase c.args.self.now.room) c.args.close n c.loop-turn.row c.loop-turn.cursor) _ c.loop-turn._turn c.loop-turn-test.true c.loop-turn.invariant in
+    first_of (search rules, grind (arith, common_steps))
+
+pub returns-in_err-expect : goal.returns-in_err-expect
+unfolding list_from expect
+returns-in_err-expect g c =
+    let e = one_more (λ n. list_from (phrase c.args.self.now.room) c.args.close n c.loop-turn.row c.loop-turn.cursor) _ c.loop-turn._turn c.loop-turn-test.true c.loop-turn.invariant in
+    first_of (search rules, grind (arith, common_steps))
+
+pub returns-then-not-sees : goal.returns-then-not-sees
+unfolding list_from expect
+returns-then-not-sees g c =
+    let e = one_more (λ n. list_from (phrase c.args.self.now.room) c.args.close n c.loop-turn.row c.loop-turn.cursor) _ c.loop-turn._turn c.loop-turn-test.true c.loop-turn.invariant in
+    first_of (search rules, grind (arith, common_steps))
+
+pub loop-turn-preserved : goal.loop-turn-preserved
+unfolding list_from expect
+loop-turn-preserved g c =
+    let e = one_more (λ n. list_from (phrase c.args.self.now.room) c.args.close n c.loop-turn.row c.loop-turn.cursor) _ c.loop-turn._turn c.loop-turn-test.true c.loop-turn.invariant in
+    first_of (search rules, grind (arith, common_steps))
+
+pub returns : goal.returns
+unfolding list_from expect
+returns g c =
+    let e = no_more (λ n. list_from (phrase c.args.self.now.room) c.args.close n c.loop-turn.row c.loop-turn.cursor) _ c.loop-turn._turn c.loop-turn-test.false c.loop-turn.invariant in
+    first_of (search rules, grind (arith, common_steps))

@@ -1,0 +1,23 @@
+-- What stands behind some tokens, and what becomes of a phrase in parentheses inside others.
+use Rattle.std.specs.Prelude.{ℕ, zero, suc, List, true}
+use Rattle.spec_tokens.specs.Tokens.{Lexeme}
+use Rattle.spec_grammar.specs.Outcome.{Parser, and_then, expect, pure}
+use Rattle.spec_grammar.specs.Phrase.{Phrase, wrapped}
+use Rattle.spec_grammar.specs.ReadExpressions.{climb, postfix, sequel, tail}
+use Rattle.spec_grammar.specs.Sign.{next}
+use Rattle.spec_grammar.specs.declared.sign.Sign.TheVariants as s
+use Rattle.spec_grammar.specs.declared.start.Start.{Start}
+
+-- the tokens behind so many
+unfoldable pub past : ℕ → List Lexeme → List Lexeme
+past zero input = input
+past (suc count) input = past count (next input)
+
+-- the closing parenthesis, and the phrase in the two, the first of which stands at a place
+unfoldable pub closing : ℕ → Phrase → Parser Phrase
+closing at inner = λ input. and_then (expect s.CloseParen input) (λ _. pure (wrapped at inner))
+
+module _ (below : Start → Parser Phrase) (room : ℕ) where
+  -- an expression that begins with a base, behind it
+  unfoldable pub finished : Phrase → Parser Phrase
+  finished left = λ input. and_then (and_then (and_then (tail below room true left input) (postfix below room)) (climb below room 10)) (sequel below room)
