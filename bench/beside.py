@@ -12,7 +12,7 @@ SNAP = os.path.join(ROOT, "crates", "snap", "out", "snap")
 
 
 def run(command, folder, wanted, status=0):
-    """How many seconds the command takes in the folder, by the clock and of processors."""
+    """How many seconds the command takes in the folder, by the clock and of processors, and its peak in KiB."""
     start = time.perf_counter()
     child = subprocess.Popen(command, cwd=folder, stdout=subprocess.PIPE, stderr=subprocess.DEVNULL)
     printed = child.stdout.read()
@@ -21,7 +21,7 @@ def run(command, folder, wanted, status=0):
     child.returncode = os.waitstatus_to_exitcode(ended)
     if child.returncode != status or printed != wanted:
         sys.exit(f"{command} ended with {child.returncode} and printed {printed[:200]!r}")
-    return seconds, usage.ru_utime + usage.ru_stime
+    return seconds, usage.ru_utime + usage.ru_stime, usage.ru_maxrss
 
 
 def least_beside_node(label, ours, theirs):

@@ -15,7 +15,7 @@ use Rattle.snap.specs.Making.{Failed, Fetched, Fetches, Hungry, InPart, IsMade, 
 use Rattle.snap.specs.Making as making
 use Rattle.snap.specs.Refusals.{refusal, source_limit}
 use Rattle.snap.specs.Thin.{Globals, ThinStatement, prints}
-use Rattle.snap.specs.declared.refused.SourceFault.TheVariants.{TooLong}
+use Rattle.snap_parse.specs.declared.fault.SourceFault.TheVariants.{TooLong}
 use Rattle.snap.specs.declared.refused.SourceRefused.{SourceRefused}
 use Rattle.snap.specs.declared.refused.SourceRefused.TheVariants.{Parse}
 use Rattle.snap.specs.ThinSource.{thin_script}

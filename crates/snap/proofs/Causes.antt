@@ -1,19 +1,28 @@
 -- A source is refused for what it has.
-use Rattle.std.proofs.Common.{◌≡◌, ◌<◌, ℕ, List, [], Option, Some, None, Result, Ok, Err, length, ap, refl, sym, subst, ◌∙◌}
+use Rattle.std.proofs.Common.{◌≡◌, ℕ, List, [], Option, Some, None, Result, Ok, Err, length, ap, refl, sym, subst, ◌∙◌}
 use Rattle.std.specs.Prelude.{IfSome, Bool, true, false, nat_le, if◌then◌else◌}
 use Rattle.snap_io.specs.Held.{Held, bytes_under}
-use Rattle.spec_tokens.specs.Tokens.{Lexeme, lexemes}
-use Rattle.spec_tokens.specs.declared.fault.LexFault.{LexFault}
 use Rattle.snap.specs.declared.fault.Fault.{Fault}
 use Rattle.snap.specs.declared.fault.Fault.TheVariants as fault
-use Rattle.snap.specs.declared.refused.SourceFault.TheVariants.{Lex, TooLong}
+use Rattle.snap_parse.specs.declared.fault.SourceFault.TheVariants as parse
 use Rattle.snap.specs.declared.refused.SourceRefused.{SourceRefused}
-use Rattle.snap.specs.declared.refused.SourceRefused.TheVariants.{Parse}
+use Rattle.snap.specs.declared.refused.SourceRefused.TheVariants.{Parse, Scope}
 use Rattle.snap.specs.Answers.{Answers, counted, entry_number, ran, ran_of, ran_unless, run_answer, source_number}
 use Rattle.snap.specs.Coming.{Answered, Asked, Built, Comes, Message, NoJob, Said, Says, Unread, Unsaid, Unwritten, message_of}
 use Rattle.snap.specs.Coming as coming
 use Rattle.snap.specs.Line.{fault_of, source_name}
-use Rattle.snap.specs.Refusals.{HasCause, refusal, source_limit}
+use Rattle.snap.specs.Refusals.{HasCause, refusal, source_limit, unaccepted}
+use Rattle.snap_ast.specs.declared.tree.Tree.{Tree}
+use Rattle.spec_grammar.specs.Source.{HasTree, Refused, read_tree}
+use Rattle.spec_grammar.proofs.Sources.{read_is_tree}
+use Rattle.snap_parse.specs.Answers.{source_fault}
+use Rattle.snap_parse.proofs.Causes.{read_cause}
+use Rattle.spec_grammar.proofs.LawfulTrees.{tree_lawful}
+use Rattle.spec_scopes.proofs.Told.{none_told, told_stands}
+use Rattle.spec_scopes.specs.EarlyErrors.{HasFault}
+use Rattle.spec_scopes.specs.Told.{early_error}
+use Rattle.spec_scopes.specs.declared.fault.ScopeFault.{ScopeFault}
+use Rattle.std.specs.Option.{option_map}
 use Rattle.snap.specs.Telling.{InPart, Sunk, Tells, Untold, Whole}
 use Rattle.snap.specs.Words.{Job, Build, Run, Verify}
 use Rattle.snap.specs.Thin.{Globals, ThinStatement, prints}
@@ -22,11 +31,10 @@ use Rattle.snap.specs.ThinSource.{thin_script}
 use Rattle.snap.specs.Verify.{Verifies}
 use Rattle.snap.specs.Answers.{print_limit}
 use Rattle.snap.specs.Line.{blob_name}
-use Rattle.spec_tokens.proofs.Lacking.{fault_is_cut}
 use Rattle.std.proofs.lemmas.Bool.{leb-false}
 
-same_fault : (fault other : LexFault) → ◌≡◌ {A = Option SourceRefused} (Some (Parse (Lex fault))) (Some (Parse (Lex other))) → fault ≡ other
-same_fault fault other e = cc
+some_why : (one other : SourceRefused) → ◌≡◌ {A = Option SourceRefused} (Some one) (Some other) → one ≡ other
+some_why one other e = cc
 
 same_refused : (n : ℕ) (why : SourceRefused) (number : ℕ) (other : SourceRefused) → ◌≡◌ {A = Result (List ℕ) Fault} (Err (fault.Source n why)) (Err (fault.Source number other)) → other ≡ why
 same_refused n why number other e = cc
@@ -36,20 +44,55 @@ same_error f g e = cc
 
 -- ---- why a source is refused
 
-unread_cause : (source : List ℕ) (read : Result (List Lexeme) LexFault) (why : SourceRefused) → lexemes source ≡ read → elim read [ Ok ls ↦ None | Err fault ↦ Some (Parse (Lex fault)) ] ≡ Some why → HasCause source why
-unread_cause source (Ok ls) why is e = absurd cc
-unread_cause source (Err fault) (Parse (Lex other)) is e = fault_is_cut source other (is ∙ ap (λ (f : LexFault). Err f) (same_fault fault other e))
-unread_cause source (Err fault) (Parse TooLong) is e = absurd cc
+scope_cause : (source : List ℕ) (tree : Tree) (error : Option ScopeFault) (why : SourceRefused) → HasTree source tree → early_error tree ≡ error → option_map Scope error ≡ Some why → HasCause source why
+scope_cause source tree None why has is e = absurd cc
+scope_cause source tree (Some fault) why has is e = subst (HasCause source) (some_why (Scope fault) why e) (tree, has, told_stands tree fault (tree_lawful source tree has) is)
 
-refused_cause : (source : List ℕ) (short : Bool) (why : SourceRefused) → nat_le (length source) source_limit ≡ short → (if short then (elim (lexemes source) [ Ok ls ↦ None | Err fault ↦ Some (Parse (Lex fault)) ]) else Some (Parse TooLong)) ≡ Some why → HasCause source why
-refused_cause source true why is e = unread_cause source (lexemes source) why refl e
-refused_cause source false (Parse TooLong) is e = leb-false (length source) source_limit is
-refused_cause source false (Parse (Lex fault)) is e = absurd cc
+unaccepted_cause : (source : List ℕ) (read : Result Tree Refused) (why : SourceRefused) → read_tree source ≡ read → unaccepted read ≡ Some why → HasCause source why
+unaccepted_cause source (Ok tree) why is e = scope_cause source tree (early_error tree) why (read_is_tree source tree is) refl e
+unaccepted_cause source (Err refused) why is e = subst (HasCause source) (some_why (Parse (source_fault refused)) why e) (read_cause source refused is)
+
+refused_cause : (source : List ℕ) (short : Bool) (why : SourceRefused) → nat_le (length source) source_limit ≡ short → (if short then unaccepted (read_tree source) else Some (Parse parse.TooLong)) ≡ Some why → HasCause source why
+refused_cause source true why is e = unaccepted_cause source (read_tree source) why refl e
+refused_cause source false why is e = subst (HasCause source) (some_why (Parse parse.TooLong) why e) (leb-false (length source) source_limit is)
 
 -- a source that is refused has the cause
 refusal_cause : (source : List ℕ) (why : SourceRefused) → refusal source ≡ Some why → HasCause source why
 unfolding refusal
 refusal_cause source why e = refused_cause source (nat_le (length source) source_limit) why refl e
+
+-- ---- what is accepted
+
+-- a tree of the source, without early errors
+abbrev IsAccepted : List ℕ → Type 0
+IsAccepted source = (tree : Tree) × HasTree source tree × ((fault : ScopeFault) → HasFault tree fault → ⊥)
+
+no_error : (error : Option ScopeFault) → ◌≡◌ {A = Option SourceRefused} (option_map Scope error) None → error ≡ None
+no_error None e = refl
+no_error (Some fault) e = absurd cc
+
+accepted_in : (source : List ℕ) (read : Result Tree Refused) → read_tree source ≡ read → unaccepted read ≡ None → IsAccepted source
+accepted_in source (Ok tree) is e =
+    let has : HasTree source tree = read_is_tree source tree is in
+    (tree, has, λ fault stands. none_told tree fault (tree_lawful source tree has) (no_error (early_error tree) e) stands)
+accepted_in source (Err refused) is e = absurd cc
+
+accepted_if : (source : List ℕ) (short : Bool) → (if short then unaccepted (read_tree source) else Some (Parse parse.TooLong)) ≡ None → IsAccepted source
+accepted_if source true e = accepted_in source (read_tree source) refl e
+accepted_if source false e = absurd cc
+
+-- a source that is not refused has a tree without early errors
+accepted_tree : (source : List ℕ) → refusal source ≡ None → IsAccepted source
+unfolding refusal
+accepted_tree source e = accepted_if source (nat_le (length source) source_limit) e
+
+unbuilt_accepted : (number : ℕ) (globals : Globals) (refused : Option SourceRefused) (statements : Option (List ThinStatement)) → ran_unless number globals refused statements ≡ Err fault.NotBuilt → refused ≡ None
+unbuilt_accepted number globals (Some why) statements e = absurd cc
+unbuilt_accepted number globals None statements e = refl
+
+-- so has one that is not built
+pub unbuilt_tree : (number : ℕ) (source : List ℕ) (globals : Globals) → ran number source globals ≡ Err fault.NotBuilt → IsAccepted source
+unbuilt_tree number source globals e = accepted_tree source (unbuilt_accepted number globals (refusal source) (thin_script source) e)
 
 -- ---- what runs not for this reason
 

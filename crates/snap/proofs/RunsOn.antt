@@ -19,7 +19,7 @@ use Rattle.snap.specs.ThinSource.{thin_script}
 use Rattle.snap.specs.Words.{Run}
 use Rattle.snap.proofs.Builds.{HasFetched, Is, Other, blob_verdict, long_runs_not, memory_or_not, run_verdict, says_nothing, says_other}
 use Rattle.snap.specs.Refusals.{refusal, source_limit}
-use Rattle.snap.specs.declared.refused.SourceFault.TheVariants.{TooLong}
+use Rattle.snap_parse.specs.declared.fault.SourceFault.TheVariants.{TooLong}
 use Rattle.snap.specs.declared.refused.SourceRefused.TheVariants.{Parse}
 
 err_is : {X : Type 0} (f g : Fault) → ◌≡◌ {A = Result X Fault} (Err f) (Err g) → f ≡ g

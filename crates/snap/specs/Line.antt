@@ -7,10 +7,12 @@ use Rattle.snap.specs.Refusals.{source_limit}
 use Rattle.snap.specs.Words.{Job, Build, Run, Verify}
 use Rattle.snap.specs.declared.fault.Fault.{Fault}
 use Rattle.snap.specs.declared.fault.Fault.TheVariants as fault
-use Rattle.snap.specs.declared.refused.SourceFault.{SourceFault}
-use Rattle.snap.specs.declared.refused.SourceFault.TheVariants as parse
+use Rattle.snap_parse.specs.declared.fault.SourceFault.{SourceFault}
+use Rattle.snap_parse.specs.declared.fault.SourceFault.TheVariants as parse
 use Rattle.snap.specs.declared.refused.SourceRefused.{SourceRefused}
 use Rattle.snap.specs.declared.refused.SourceRefused.TheVariants as why
+use Rattle.spec_scopes.specs.declared.fault.ScopeFault.{ScopeFault}
+use Rattle.spec_scopes.specs.declared.fault.ScopeFault.TheVariants as scope
 use Rattle.spec_tokens.specs.declared.fault.LexFault.{LexFault}
 use Rattle.spec_tokens.specs.declared.fault.LexFault.TheVariants as lex
 
@@ -85,18 +87,40 @@ lex_place lex.NoMemory = 0
 -- the kind of a fault of a source
 abbrev pub parse_kind : SourceFault → List ℕ
 parse_kind (parse.Lex f) = lex_kind f
+parse_kind (parse.Syntax at) = codes "Syntax"
+parse_kind (parse.Nested at) = codes "Nested"
 parse_kind parse.TooLong = codes "TooLong"
+parse_kind parse.NoMemory = codes "NoMemory"
 
 -- its place in the source; that of a source that is too long is the limit
 abbrev pub parse_place : SourceFault → ℕ
 parse_place (parse.Lex f) = lex_place f
+parse_place (parse.Syntax at) = at
+parse_place (parse.Nested at) = at
 parse_place parse.TooLong = source_limit
+parse_place parse.NoMemory = 0
+
+-- the kind of an early error
+abbrev pub scope_kind : ScopeFault → List ℕ
+scope_kind (scope.Duplicate at) = codes "Duplicate"
+scope_kind (scope.BadTarget at) = codes "BadTarget"
+scope_kind (scope.StrayJump at) = codes "StrayJump"
+scope_kind scope.NoMemory = codes "NoMemory"
+
+-- its place in the source
+abbrev pub scope_place : ScopeFault → ℕ
+scope_place (scope.Duplicate at) = at
+scope_place (scope.BadTarget at) = at
+scope_place (scope.StrayJump at) = at
+scope_place scope.NoMemory = 0
 
 abbrev pub refused_kind : SourceRefused → List ℕ
 refused_kind (why.Parse f) = parse_kind f
+refused_kind (why.Scope f) = scope_kind f
 
 abbrev pub refused_place : SourceRefused → ℕ
 refused_place (why.Parse f) = parse_place f
+refused_place (why.Scope f) = scope_place f
 
 -- both in words, to the end of the line
 abbrev pub refused_text : SourceRefused → List ℕ

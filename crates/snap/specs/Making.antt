@@ -5,7 +5,7 @@ use Rattle.snap_io.specs.Counts.{HasRisen}
 use Rattle.snap_io.specs.Held.{Told, Writes, WritesInPart, bytes_under}
 use Rattle.snap.specs.declared.fault.Fault.{Fault}
 use Rattle.snap.specs.declared.fault.Fault.TheVariants as fault
-use Rattle.snap.specs.declared.refused.SourceFault.TheVariants as parse
+use Rattle.snap_parse.specs.declared.fault.SourceFault.TheVariants as parse
 use Rattle.snap.specs.declared.refused.SourceRefused.TheVariants.{Parse}
 use Rattle.snap.specs.Answers.{entry_number, ran, source_number}
 use Rattle.snap.specs.Coming.{Asked, IsBlobVerdict, IsSteady, IsVerdict, Message, Says, starved}

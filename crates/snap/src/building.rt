@@ -15,11 +15,12 @@ use crate::build::made_blob;
 use crate::evaluate::{Stop, evaluate};
 use crate::fault::Fault;
 use crate::judge::{SOURCE_LIMIT, Unjudged, judge};
-use crate::refused::{SourceFault, SourceRefused};
+use crate::refused::SourceRefused;
 use crate::said::{Said, refused, starved};
 use crate::statement::Statement;
 use indexmap::IndexMap;
 use snap_io::{Files, ReadAnswer, WriteAnswer};
+use snap_parse::SourceFault;
 use std::alloc::Global;
 
 /// The name of the blob that a build writes.

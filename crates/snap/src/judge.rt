@@ -1,6 +1,6 @@
 //! Which sources are thin scripts.
 
-ghost use Rattle.std.specs.Prelude.{◌≡◌, length, slice_range, None, Some, Err, IfOk};
+ghost use Rattle.std.specs.Prelude.{◌≡◌, ℕ, List, length, slice_range, None, Some, Err, IfOk};
 ghost use Rattle.std.specs.List.{list_all, list_any};
 ghost use Rattle.std.specs.Str.{bytes_eq};
 ghost use Rattle.std.specs.Option.{option_map};
@@ -8,13 +8,24 @@ ghost use Rattle.spec_tokens.specs.Byte.{is_digit};
 ghost use Rattle.snap_lex.specs.View.{views};
 ghost use Rattle.snap.specs.Judged.{left, literal_left, name_left, statement_left, thin_list};
 ghost use Rattle.snap.specs.Refusals.{refusal};
+ghost use Rattle.snap.specs.Answers.{ran};
+ghost use Rattle.snap.specs.declared.fault.Fault.{Fault};
+ghost use Rattle.snap_ast.specs.declared.tree.Tree.{Tree};
+ghost use Rattle.snap_ast.specs.Lawful.{Lawful};
+ghost use Rattle.spec_grammar.specs.Source.{HasTree};
+ghost use Rattle.spec_scopes.specs.EarlyErrors.{HasFault};
+ghost use Rattle.spec_scopes.specs.Told.{early_error};
+ghost use Rattle.spec_scopes.specs.declared.fault.ScopeFault.{ScopeFault};
 ghost use Rattle.snap.specs.declared.refused.SourceRefused.{SourceRefused};
-ghost use Rattle.snap.specs.Thin.{thin_of, value_of};
+ghost use Rattle.snap.specs.Thin.{Globals, thin_of, value_of};
 ghost use Rattle.snap.specs.ThinSource.{argument, assign_statement, closed, decimal_value, expect, free_name, global_name, is_free_name, is_parting, literal, literal_value, log_statement, own_names, plain_text_value, parts_by_blanks, statements_of, thin_script, thin_statement, thin_statements, word_value};
 
-use crate::refused::{SourceFault, SourceRefused};
+use crate::refused::SourceRefused;
 use crate::statement::{Literal, Statement};
+use snap_ast::Tree;
 use snap_lex::{LexFault, Token, TokenKind, safe_number, tokens};
+use snap_parse::{SourceFault, parse};
+use snap_scope::{ScopeFault, resolve};
 use std::alloc::{AllocError, Global};
 
 /// The most bytes of a source.
@@ -29,32 +40,63 @@ pub(crate) enum Unjudged {
     NoMemory,
 }
 
-/// The statements of a thin script; none where the source is another script.
-#[tactic(auto, unfolding(crate::specs::ThinSource::thin_script, crate::specs::Refusals::refusal))]
-pub(crate) fn judge(alloc: Global, source: &[u8]) -> Result<Option<Vec<Statement<'_>>>, Unjudged>
+// The statements of a source that has this tree.
+fn judge_tree<'s>(
+    alloc: Global,
+    source: &'s [u8],
+    tree: &Tree,
+) -> Result<Option<Vec<Statement<'s>>>, Unjudged>
+    requires lawful { Lawful tree.now }
     ensures judged { IfOk result (λ o. thin_list o ≡ thin_script source.now) }
-    ensures accepted { IfOk result (λ o. refusal source.now ≡ None) }
-    ensures unthin { (why : SourceRefused) → result ≡ Err (Unjudged.Refused why) → thin_script source.now ≡ None }
-    ensures refused { (why : SourceRefused) → result ≡ Err (Unjudged.Refused why) → refusal source.now ≡ Some why }
+    ensures accepted { IfOk result (λ o. early_error tree.now ≡ None) }
+    ensures refused { (why : SourceRefused) → result ≡ Err (Unjudged.Refused why) → option_map (λ fault. SourceRefused.Scope fault) (early_error tree.now) ≡ Some why }
 {
-    if source.len() > SOURCE_LIMIT {
-        return refused(SourceFault::TooLong);
-    }
-    match tokens(alloc, source) {
-        Ok(list) => match statements_of(alloc, source, &list) {
+    match resolve(alloc, tree) {
+        Ok(_) => match thin_script(alloc, source) {
             Ok(found) => Ok(found),
             Err(_) => Err(Unjudged::NoMemory),
         },
-        Err(LexFault::NoMemory) => Err(Unjudged::NoMemory),
-        Err(fault) => refused(SourceFault::Lex(fault)),
+        Err(ScopeFault::NoMemory) => Err(Unjudged::NoMemory),
+        Err(fault) => Err(Unjudged::Refused(SourceRefused::Scope(fault))),
     }
 }
 
-// A source without a tree.
-fn refused<'s>(fault: SourceFault) -> Result<Option<Vec<Statement<'s>>>, Unjudged>
-    ensures { result ≡ Err (Unjudged.Refused (SourceRefused.Parse fault)) }
+/// The statements of a source that has a tree without early errors; none where it is no thin script.
+#[tactic(auto, unfolding(crate::specs::Refusals::refusal))]
+pub(crate) fn judge(alloc: Global, source: &[u8]) -> Result<Option<Vec<Statement<'_>>>, Unjudged>
+    ensures judged { IfOk result (λ o. thin_list o ≡ thin_script source.now) }
+    ensures accepted { IfOk result (λ o. refusal source.now ≡ None) }
+    ensures refused { (why : SourceRefused) → result ≡ Err (Unjudged.Refused why) → refusal source.now ≡ Some why }
 {
-    Err(Unjudged::Refused(SourceRefused::Parse(fault)))
+    match parse(alloc, source) {
+        Ok(tree) => judge_tree(alloc, source, &tree),
+        Err(SourceFault::NoMemory) => Err(Unjudged::NoMemory),
+        Err(fault) => Err(Unjudged::Refused(SourceRefused::Parse(fault))),
+    }
+}
+
+/// A source that is not built has a tree, and that has no early error.
+pub fn unbuilt_has_a_right_tree()
+    ensures { (number : ℕ) (source : List ℕ) (globals : Globals) → ran number source globals ≡ Err Fault.NotBuilt
+        → (tree : Tree) × HasTree source tree × ((fault : ScopeFault) → HasFault tree fault → ⊥) }
+{}
+
+/// The statements of a thin script; none where the source is no thin script.
+#[tactic(auto, unfolding(crate::specs::ThinSource::thin_script))]
+pub(crate) fn thin_script(
+    alloc: Global,
+    source: &[u8],
+) -> Result<Option<Vec<Statement<'_>>>, AllocError>
+    ensures { IfOk result (λ o. thin_list o ≡ thin_script source.now) }
+{
+    if source.len() > SOURCE_LIMIT {
+        return Ok(None);
+    }
+    match tokens(alloc, source) {
+        Ok(list) => statements_of(alloc, source, &list),
+        Err(LexFault::NoMemory) => Err(AllocError),
+        Err(_) => Ok(None),
+    }
 }
 
 // The statements of the tokens of a source.

@@ -2,13 +2,15 @@
 
 ghost use Rattle.std.specs.Prelude.{◌≡◌, [], IfOk};
 ghost use Rattle.std.specs.String.{string_bytes};
-ghost use Rattle.snap.specs.Line.{count_line, fault_line, kind_name, lex_kind, lex_place, parse_kind, parse_place, refused_kind, refused_place, refused_text, status_of};
+ghost use Rattle.snap.specs.Line.{count_line, fault_line, kind_name, lex_kind, lex_place, parse_kind, parse_place, refused_kind, refused_place, refused_text, scope_kind, scope_place, status_of};
 
 use crate::fault::Fault;
 use crate::judge::SOURCE_LIMIT;
-use crate::refused::{SourceFault, SourceRefused};
+use crate::refused::SourceRefused;
 use snap_blob::{BlobFault, BlobKind};
 use snap_lex::LexFault;
+use snap_parse::SourceFault;
+use snap_scope::ScopeFault;
 use std::alloc::{AllocError, Global};
 
 /// The line of a fault, with its line feed, where `name` is that of the file whose read failed or of the
@@ -56,6 +58,7 @@ fn refused_kind(why: SourceRefused) -> &'static str
 {
     match why {
         SourceRefused::Parse(fault) => parse_kind(fault),
+        SourceRefused::Scope(fault) => scope_kind(fault),
     }
 }
 
@@ -64,7 +67,10 @@ fn parse_kind(fault: SourceFault) -> &'static str
 {
     match fault {
         SourceFault::Lex(fault) => lex_kind(fault),
+        SourceFault::Syntax(_) => "Syntax",
+        SourceFault::Nested(_) => "Nested",
         SourceFault::TooLong => "TooLong",
+        SourceFault::NoMemory => "NoMemory",
     }
 }
 
@@ -79,11 +85,23 @@ fn lex_kind(fault: LexFault) -> &'static str
     }
 }
 
+fn scope_kind(fault: ScopeFault) -> &'static str
+    ensures { result.now ≡ scope_kind fault }
+{
+    match fault {
+        ScopeFault::Duplicate(_) => "Duplicate",
+        ScopeFault::BadTarget(_) => "BadTarget",
+        ScopeFault::StrayJump(_) => "StrayJump",
+        ScopeFault::NoMemory => "NoMemory",
+    }
+}
+
 fn refused_place(why: SourceRefused) -> u32
     ensures { result ≡ refused_place why }
 {
     match why {
         SourceRefused::Parse(fault) => parse_place(fault),
+        SourceRefused::Scope(fault) => scope_place(fault),
     }
 }
 
@@ -92,7 +110,9 @@ fn parse_place(fault: SourceFault) -> u32
 {
     match fault {
         SourceFault::Lex(fault) => lex_place(fault),
+        SourceFault::Syntax(at) | SourceFault::Nested(at) => at,
         SourceFault::TooLong => SOURCE_LIMIT as u32,
+        SourceFault::NoMemory => 0,
     }
 }
 
@@ -102,6 +122,15 @@ fn lex_place(fault: LexFault) -> u32
     match fault {
         LexFault::BadByte(at) | LexFault::Unclosed(at) | LexFault::BigLiteral(at) => at,
         LexFault::NoMemory => 0,
+    }
+}
+
+fn scope_place(fault: ScopeFault) -> u32
+    ensures { result ≡ scope_place fault }
+{
+    match fault {
+        ScopeFault::Duplicate(at) | ScopeFault::BadTarget(at) | ScopeFault::StrayJump(at) => at,
+        ScopeFault::NoMemory => 0,
     }
 }
 

@@ -17,7 +17,7 @@ ghost use Rattle.snap.specs.ThinParts.{AreThin};
 ghost use Rattle.snap.specs.ThinSource.{thin_script};
 
 use crate::fault::Fault;
-use crate::judge::{Unjudged, judge};
+use crate::judge;
 use crate::keeping::globals_behind;
 use crate::kept::{Kept, Loaded};
 use crate::parts::{Parts, parts_of, strings_in};
@@ -88,10 +88,9 @@ fn globals_of_sections(
 fn is_thin_script(alloc: Global, script: &[u8]) -> Result<bool, NoMemory>
     ensures { IfOk result (λ b. b ≡ is_some (thin_script script.now)) }
 {
-    match judge(alloc, script) {
+    match judge::thin_script(alloc, script) {
         Ok(found) => Ok(found.is_some()),
-        Err(Unjudged::Refused(_)) => Ok(false),
-        Err(Unjudged::NoMemory) => Err(NoMemory),
+        Err(_) => Err(NoMemory),
     }
 }
 

@@ -1,19 +1,13 @@
 //! Why a source is refused.
 
-use spec_tokens::LexFault;
-
-/// Why a source has no tree.
-#[derive(Clone, Copy, Debug, PartialEq, Eq)]
-pub enum SourceFault {
-    /// The source has no tokens, by this fault, which is never want of memory.
-    Lex(LexFault),
-    /// The source has more than 1,048,576 bytes.
-    TooLong,
-}
+use snap_parse::SourceFault;
+use snap_scope::ScopeFault;
 
 /// Why a source or an entry is refused.
 #[derive(Clone, Copy, Debug, PartialEq, Eq)]
 pub enum SourceRefused {
-    /// It has no tree.
+    /// It has no tree, by this fault, which is never want of memory.
     Parse(SourceFault),
+    /// Its tree has an early error, this one, which is never want of memory.
+    Scope(ScopeFault),
 }

@@ -4,13 +4,14 @@ ghost use Rattle.std.specs.Prelude.{IfOk};
 ghost use Rattle.snap_io.specs.NamedFile.{AreApart};
 
 use crate::fault::Fault;
-use crate::refused::{SourceFault, SourceRefused};
+use crate::refused::SourceRefused;
 use crate::serial::snap_serial;
-use crate::tests::{
-    BLOB_A, CONTEXT, EXTERNALS, READ_ONLY, STARTUP, number, prints, sealed, words_of,
-};
+use crate::tests::builds::string_section;
+use crate::tests::{BLOB_A, CONTEXT, EXTERNALS, READ_ONLY, STARTUP, prints, sealed, words_of};
 use snap_io::{Files, HonestFiles, HonestSink, MemFiles, MemSink, NamedFile};
 use snap_lex::LexFault;
+use snap_parse::SourceFault;
+use snap_scope::ScopeFault;
 use std::alloc::{AllocError, Global};
 use std::process::Abort;
 use std::test::Fail;
@@ -44,22 +45,6 @@ const OWN_KEYS: &[u8] = &[10, 3, 0, 7, 2, 6, 1, 8, 5, 4, 9, 11, 13];
 const OWN_VALUES: &[u8] = &[
     8, 0, 7, 10, 7, 11, 7, 12, 7, 13, 7, 14, 7, 15, 7, 16, 7, 17, 7, 18, 7, 19, 7, 20, 7, 23,
 ];
-
-/// The read-only section of the strings.
-fn string_bytes(alloc: Global) -> Result<Vec<u8>, AllocError> {
-    let mut section = Vec::new(alloc);
-    section.extend_from_slice(&number(STRINGS.len()))?;
-    section.extend_from_slice(&number(0))?;
-    let mut end = 0usize;
-    for string in STRINGS {
-        end = end.saturating_add(string.len());
-        section.extend_from_slice(&number(end))?;
-    }
-    for string in STRINGS {
-        section.extend_from_slice(string.as_bytes())?;
-    }
-    Ok(section)
-}
 
 fn byte(n: usize) -> u8 {
     u8::try_from(n).unwrap_or(u8::MAX)
@@ -129,12 +114,17 @@ fn by_hand(alloc: Global, made: ByHand) -> Result<Vec<u8>, AllocError> {
     context.extend_from_slice(&OWN_VALUES[..own * 2])?;
     context.extend_from_slice(made.last_values)?;
     context.extend_from_slice(&[0; 4])?;
-    let read_only = string_bytes(alloc)?;
+    let read_only = string_section(alloc, &words_of(alloc, &STRINGS)?)?;
     let sections: [&[u8]; 4] = [&EXTERNALS, &read_only, &startup, &context];
     sealed(alloc, &sections)
 }
 
-fn script_file(alloc: Global, name: &str, source: &[u8]) -> Result<Vec<NamedFile>, AllocError>
+/// Files of which one is held.
+pub(crate) fn script_file(
+    alloc: Global,
+    name: &str,
+    source: &[u8],
+) -> Result<Vec<NamedFile>, AllocError>
     ensures { IfOk result (λ files. AreApart files.items) }
 {
     let name = String::from_str(alloc, name)?;
@@ -266,23 +256,35 @@ fn longest_entry(rt: HostRuntime) -> Result<(), Fail> {
     runs(&rt, alloc, &blob, &entry[1..], line, 3)
 }
 
+/// Entries that are refused, why, and how that is told.
+const REFUSED: [(&str, SourceRefused, &str); 2] = [
+    (
+        "/* 9007199254740992 */ 9007199254740992",
+        SourceRefused::Parse(SourceFault::Lex(LexFault::BigLiteral(23))),
+        "source refused: e.js BigLiteral at 23\n",
+    ),
+    (
+        "console.log(x); ++1;",
+        SourceRefused::Scope(ScopeFault::BadTarget(18)),
+        "source refused: e.js BadTarget at 18\n",
+    ),
+];
+
 /// An entry that is refused is so under the number of the blob's scripts.
 #[test]
-fn refused_entry(rt: HostRuntime) -> Result<(), Fail> {
+fn refused_entries(rt: HostRuntime) -> Result<(), Fail> {
     let alloc = rt.alloc();
-    let words = words_of(alloc, &["run", "e.js"])?;
-    let entry = b"/* 9007199254740992 */ 9007199254740992";
-    let mut files = HonestFiles::new(alloc, script_file(alloc, "e.js", entry)?);
-    files.write("snapshot.blob", &by_hand(alloc, MINUS_FIVE)?)?;
-    let mut out = HonestSink::new(alloc);
-    let outcome = snap_serial(alloc, &words, &mut files, &mut out, 0);
-    let why = SourceRefused::Parse(SourceFault::Lex(LexFault::BigLiteral(23)));
-    assert_eq!(rt; outcome.fault, Some(Fault::Source(1, why)));
-    assert_eq!(rt; outcome.status, 3);
-    assert_eq!(rt;
-        out.written(),
-        b"source refused: e.js BigLiteral at 23\n".as_slice()
-    );
+    for (entry, why, line) in REFUSED {
+        let words = words_of(alloc, &["run", "e.js"])?;
+        let held = script_file(alloc, "e.js", entry.as_bytes())?;
+        let mut files = HonestFiles::new(alloc, held);
+        files.write("snapshot.blob", &by_hand(alloc, MINUS_FIVE)?)?;
+        let mut out = HonestSink::new(alloc);
+        let outcome = snap_serial(alloc, &words, &mut files, &mut out, 0);
+        assert_eq!(rt; outcome.fault, Some(Fault::Source(1, why)), "{entry}");
+        assert_eq!(rt; outcome.status, 3);
+        assert_eq!(rt; out.written(), line.as_bytes(), "{entry}");
+    }
     Ok(())
 }
 

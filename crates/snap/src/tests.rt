@@ -13,7 +13,7 @@ use std::alloc::{AllocError, Global};
 use std::process::Abort;
 use std::test::Fail;
 
-mod builds;
+pub(crate) mod builds;
 
 /// A blob without a string, as the format's description spells it.
 pub(crate) const BLOB_A: [u8; 100] = [

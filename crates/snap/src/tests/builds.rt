@@ -1,14 +1,14 @@
 //! What `build` prints and writes over files in memory.
 
-ghost use Rattle.std.specs.Prelude.{IfOk};
-ghost use Rattle.snap_io.specs.NamedFile.{AreApart};
-
 use super::{number, sealed, words_of};
 use crate::fault::Fault;
-use crate::refused::{SourceFault, SourceRefused};
+use crate::refused::SourceRefused;
+use crate::run_tests::script_file;
 use crate::serial::snap_serial;
-use snap_io::{Files, HonestFiles, HonestSink, MemFiles, MemSink, NamedFile};
+use snap_io::{Files, HonestFiles, HonestSink, MemFiles, MemSink};
 use snap_lex::LexFault;
+use snap_parse::SourceFault;
+use snap_scope::ScopeFault;
 use std::alloc::{AllocError, Global};
 use std::process::Abort;
 use std::test::Fail;
@@ -55,7 +55,7 @@ fn put_varint(out: &mut Vec<u8>, n: usize) -> Result<(), AllocError> {
 }
 
 /// The read-only section of some strings.
-fn string_section(alloc: Global, strings: &[String]) -> Result<Vec<u8>, AllocError> {
+pub(crate) fn string_section(alloc: Global, strings: &[String]) -> Result<Vec<u8>, AllocError> {
     let mut section = Vec::new(alloc);
     section.extend_from_slice(&number(strings.len()))?;
     section.extend_from_slice(&number(0))?;
@@ -124,16 +124,6 @@ fn expected_blob(alloc: Global) -> Result<Vec<u8>, AllocError> {
     blob_of(alloc, &strings, SOURCE.as_bytes(), &KEYS, &[6, 2])
 }
 
-fn script_file(alloc: Global, source: &[u8]) -> Result<Vec<NamedFile>, AllocError>
-    ensures { IfOk result (λ files. AreApart files.items) }
-{
-    let name = String::from_str(alloc, "s.js")?;
-    let bytes = Vec::from_slice(alloc, source)?;
-    let mut files = Vec::new(alloc);
-    files.push(NamedFile { name, bytes })?;
-    Ok(files)
-}
-
 /// That a build of this source prints this and ends with this status. The blob that it wrote, if any.
 fn blob_built(
     rt: &impl Abort,
@@ -143,7 +133,7 @@ fn blob_built(
     status: u8,
 ) -> Result<Option<Vec<u8>>, Fail> {
     let words = words_of(alloc, &["build", "s.js"])?;
-    let mut files = HonestFiles::new(alloc, script_file(alloc, source)?);
+    let mut files = HonestFiles::new(alloc, script_file(alloc, "s.js", source)?);
     files.write("other", b"x")?;
     let mut out = HonestSink::new(alloc);
     let outcome = snap_serial(alloc, &words, &mut files, &mut out, 0);
@@ -255,22 +245,70 @@ fn printed_lines(rt: HostRuntime) -> Result<(), Fail> {
     Ok(())
 }
 
-/// A source that is refused is so under its place among the sources.
+/// Sources that are refused, why, and how that is told.
+const REFUSED: [(&str, SourceRefused, &str); 9] = [
+    (
+        "let 1;",
+        SourceRefused::Parse(SourceFault::Syntax(4)),
+        "source refused: bad.js Syntax at 4\n",
+    ),
+    (
+        "1; 08",
+        SourceRefused::Parse(SourceFault::Lex(LexFault::BadByte(4))),
+        "source refused: bad.js BadByte at 4\n",
+    ),
+    (
+        "console.log(1",
+        SourceRefused::Parse(SourceFault::Syntax(13)),
+        "source refused: bad.js Syntax at 13\n",
+    ),
+    (
+        "!!!!!!!!!!!!!!!!!!!!!!!!!!!!!!!!!!!!!!!!!!!!!!!!!!!!!!!!!!!!!!!!!!!!!!!!!!!!!!!!!!!!!!!!!!!!!!!!!!!!a",
+        SourceRefused::Parse(SourceFault::Nested(100)),
+        "source refused: bad.js Nested at 100\n",
+    ),
+    (
+        "let a = 1; let a = 2;",
+        SourceRefused::Scope(ScopeFault::Duplicate(15)),
+        "source refused: bad.js Duplicate at 15\n",
+    ),
+    (
+        "x = 1; f() = 2;",
+        SourceRefused::Scope(ScopeFault::BadTarget(7)),
+        "source refused: bad.js BadTarget at 7\n",
+    ),
+    (
+        "while (a) {} break;",
+        SourceRefused::Scope(ScopeFault::StrayJump(13)),
+        "source refused: bad.js StrayJump at 13\n",
+    ),
+    (
+        "return; { let b; let b; }",
+        SourceRefused::Scope(ScopeFault::StrayJump(0)),
+        "source refused: bad.js StrayJump at 0\n",
+    ),
+    (
+        "return; let",
+        SourceRefused::Parse(SourceFault::Syntax(11)),
+        "source refused: bad.js Syntax at 11\n",
+    ),
+];
+
+/// A source that is refused is so under its place among the sources, and nothing is written.
 #[test]
-fn refused_source(rt: HostRuntime) -> Result<(), Fail> {
+fn refused_sources(rt: HostRuntime) -> Result<(), Fail> {
     let alloc = rt.alloc();
-    let words = words_of(alloc, &["build", "s.js"])?;
-    let mut files = HonestFiles::new(alloc, script_file(alloc, b"1; 08")?);
-    let mut out = HonestSink::new(alloc);
-    let outcome = snap_serial(alloc, &words, &mut files, &mut out, 0);
-    let why = SourceRefused::Parse(SourceFault::Lex(LexFault::BadByte(4)));
-    assert_eq!(rt; outcome.fault, Some(Fault::Source(0, why)));
-    assert_eq!(rt; outcome.status, 3);
-    assert_eq!(rt;
-        out.written(),
-        b"source refused: s.js BadByte at 4\n".as_slice()
-    );
-    assert_eq!(rt; files.held("snapshot.blob"), None);
+    for (source, why, line) in REFUSED {
+        let words = words_of(alloc, &["build", "bad.js"])?;
+        let held = script_file(alloc, "bad.js", source.as_bytes())?;
+        let mut files = HonestFiles::new(alloc, held);
+        let mut out = HonestSink::new(alloc);
+        let outcome = snap_serial(alloc, &words, &mut files, &mut out, 0);
+        assert_eq!(rt; outcome.fault, Some(Fault::Source(0, why)), "{source}");
+        assert_eq!(rt; outcome.status, 3);
+        assert_eq!(rt; out.written(), line.as_bytes(), "{source}");
+        assert_eq!(rt; files.held("snapshot.blob"), None);
+    }
     Ok(())
 }
 
@@ -420,7 +458,7 @@ fn failing_builds(rt: HostRuntime) -> Result<(), Fail> {
     let blob = expected_blob(alloc)?;
     for (calls, puts, name, line, status, written) in FAILING {
         let words = words_of(alloc, &["build", name])?;
-        let held = script_file(alloc, SOURCE.as_bytes())?;
+        let held = script_file(alloc, "s.js", SOURCE.as_bytes())?;
         let mut files = MemFiles::new(alloc, held, calls.to_vec(alloc)?);
         files.write("snapshot.blob", b"old")?;
         let mut out = MemSink::new(alloc, puts.to_vec(alloc)?);

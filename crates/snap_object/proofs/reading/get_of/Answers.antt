@@ -1,0 +1,16 @@
+use Rattle.std.proofs.Common.{codes, refl, sym, ⊎_elim}
+use Rattle.snap_base.specs.declared.stop.Stop.TheVariants.{NotInProfile}
+use Rattle.spec_values.specs.Access.{get}
+use Rattle.snap_object.proofs.Follows.{at_same, stopped}
+use Rattle.snap_object.proofs.Throwing.{threw}
+use Rattle.snap_object.proofs.reading.get_of.Goals as goal
+
+pub returns-in-Empty-clause-gives : goal.returns-in-Empty-clause-gives
+returns-in-Empty-clause-gives g c = at_same (λ base. get base c.args.key.now) (sym c.in-Empty.is) (stopped NotInProfile (record { nodes = refl; private_nodes = refl; log = refl }))
+
+pub returns-in-Undefined-clause-gives : goal.returns-in-Undefined-clause-gives
+returns-in-Undefined-clause-gives g c =
+    ⊎_elim
+    (λ e. at_same (λ base. get base c.args.key.now) (sym e) (threw (codes "no properties") c.type_error.ensures.gives))
+    (λ e. at_same (λ base. get base c.args.key.now) (sym e) (threw (codes "no properties") c.type_error.ensures.gives))
+    c.in-Undefined.is

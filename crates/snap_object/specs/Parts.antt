@@ -1,0 +1,81 @@
+-- Parts of an access.
+use Rattle.std.specs.Prelude.{ℕ, ◌&&◌, ◌||◌, pos, Bool, true, List, codes, length, Option, None, Some, is_some, if◌then◌else◌}
+use Rattle.std.specs.Str.{bytes_eq as text_eq}
+use Rattle.snap_base.specs.declared.stop.Stop.TheVariants.{NotInProfile}
+use Rattle.snap_graph.specs.declared.node.Node.{Node}
+use Rattle.snap_graph.specs.declared.value.Value.{Value}
+use Rattle.snap_graph.specs.declared.value.Value.TheVariants.{Int, Node as At, Text}
+use Rattle.spec_values.specs.Access.{element_or_undefined, is_length, is_size, is_special, kind_of, look_up, may_write, named_key, not_writable, reached_from}
+use Rattle.spec_values.specs.Answer.{◌>>=◌, Action, Gave, give, stop}
+use Rattle.snap_object.specs.declared.search.Found.{Found}
+use Rattle.snap_object.specs.declared.search.Found.TheVariants.{Special, Size, Own, Absent}
+use Rattle.spec_values.specs.Operations.{elements_of, is_frozen, own_value, put_own, with_element, with_nodes, without_own}
+
+-- a key is used, and what follows is not in this profile
+abbrev pub outside : {A : Type 0} → Value → Action A
+outside key = named_key key >>= λ _. stop NotInProfile
+
+-- looking a key up from a node on
+abbrev pub looked_up : Value → List ℕ → ℕ → Action Value
+looked_up base name from heap = look_up base name (reached_from heap.nodes from) heap
+
+-- reading an element
+abbrev pub element_read : ℕ → ℕ → Action Value
+element_read number place heap = give (element_or_undefined (elements_of heap.nodes number) place) heap
+
+-- reading a name from a text, and from a node
+abbrev pub text_rest : List ℕ → List ℕ → Action Value
+text_rest text name heap =
+    (if text_eq name (codes "length") then give (Int (pos (length text))) else look_up (Text text) name (reached_from heap.nodes 3)) heap
+
+abbrev pub node_rest : ℕ → List ℕ → Action Value
+node_rest number name heap =
+    (if is_length heap.nodes number name then give (Int (pos (length (elements_of heap.nodes number)))) else look_up (At number) name (reached_from heap.nodes number)) heap
+
+-- an index is no use of a key; a key is used, and what follows is not in this profile
+abbrev pub outside_unless : {A : Type 0} → Option ℕ → Value → Action A
+outside_unless (Some place) key = stop NotInProfile
+outside_unless None key = outside key
+
+-- a name that can't be deleted from a node in this profile
+abbrev pub is_outside : List Node → ℕ → List ℕ → Bool
+is_outside nodes number name = is_special (kind_of nodes number) name || is_length nodes number name
+
+-- a property that may not be deleted
+abbrev pub is_kept : List Node → ℕ → List ℕ → Bool
+is_kept nodes number name = is_size number name || (is_some (own_value nodes number name) && is_frozen nodes number)
+
+-- a property is removed, if there is one
+abbrev pub without : ℕ → List ℕ → Action Bool
+without number name heap = Gave true (with_nodes heap (without_own heap.nodes number name))
+
+-- an element is written
+abbrev pub element_written : ℕ → ℕ → Value → Action Unit
+element_written number place value heap = Gave tt (with_nodes heap (with_element heap.nodes number place value))
+
+-- a frozen node refuses a write
+abbrev pub unless_frozen : ℕ → Action Unit
+unless_frozen number heap = (if is_frozen heap.nodes number then not_writable else give tt) heap
+
+-- `length` of an array is not written
+abbrev pub length_kept : ℕ → Action Unit
+length_kept number heap = (if is_frozen heap.nodes number then not_writable else stop NotInProfile) heap
+
+-- whether a write may go on, from a node on
+abbrev pub may_write_from : List ℕ → ℕ → Action Unit
+may_write_from name from heap = may_write name (reached_from heap.nodes from) heap
+
+-- a property is put on a node that is not frozen
+abbrev pub put_unless_frozen : ℕ → List ℕ → Value → Action Unit
+put_unless_frozen number name value heap = (if is_frozen heap.nodes number then not_writable else put_own number name value) heap
+
+-- a key is used, and the write refused
+abbrev pub refused : Value → Action Unit
+refused key = named_key key >>= λ _. not_writable
+
+-- what a write comes to where this was found
+abbrev pub write_where : Found Value → Action Unit
+write_where Special = stop NotInProfile
+write_where (Size prototype) = not_writable
+write_where (Own number value) = unless_frozen number
+write_where Absent = give tt

@@ -1,0 +1,10 @@
+pub mod Apart
+pub mod Ends
+pub mod Entries
+pub mod Errors
+pub mod Levels
+pub mod Next
+pub mod Nodes
+pub mod Numbers
+pub mod Spread
+pub mod Visits

@@ -1,0 +1,14 @@
+use Rattle.std.proofs.Common.{◌≡◌, ◌++◌, List, ap, subst, ◌∙◌, OnOk}
+use Rattle.snap_scope.specs.Names.{all_declared}
+use Rattle.snap_scope.specs.declared.names.Name.{Name}
+use Rattle.std.specs.Prelude.{None}
+use Rattle.spec_scopes.specs.Told.{first_repeat}
+use Rattle.spec_scopes.specs.Names.{Declared}
+use Rattle.spec_scopes.specs.Scopes.{names_apart}
+use Rattle.snap_scope.proofs.enter.apart_slots.Goals as goal
+
+pub returns-in-Ok-clause-apart : goal.returns-in-Ok-clause-apart
+returns-in-Ok-clause-apart c =
+    let apart : List Declared = names_apart c.args.nodes.now c.args.form.now in
+    let names : all_declared c.deref.result.now ≡ apart = ap all_declared c.deref.ensures.value ∙ c.in-Ok.ensures ∙ ap (λ (xs : List Name). all_declared xs ++ apart) c.new-names.ensures.items in
+    subst (λ (list : List Declared). OnOk c.slots_of.result (first_repeat list ≡ None)) names c.slots_of.ensures.apart

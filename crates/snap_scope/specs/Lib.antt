@@ -1,0 +1,6 @@
+pub mod Children
+pub mod Names
+pub mod Faults
+pub mod Chains
+pub mod Visit
+pub mod Start

@@ -1,0 +1,102 @@
+//! The scope that a node makes, and what its children have from it.
+
+ghost use Rattle.std.specs.Prelude.{◌≡◌, ◌<◌, ◌^◌, ◌++◌, ◌∷◌, [], ℕ, List, Option, None, Some, map, length, slice_get, OnOk, IfOk, IfErr};
+ghost use Rattle.snap_ast.specs.Words.{Each};
+ghost use Rattle.snap_graph.specs.declared.kind.ScopeKind.{ScopeKind};
+ghost use Rattle.snap_scope.specs.Chains.{chain_in};
+ghost use Rattle.snap_scope.specs.Faults.{IsTold};
+ghost use Rattle.snap_scope.specs.Visit.{child_context, Enters};
+ghost use Rattle.spec_scopes.specs.Round.{IsAmong};
+ghost use Rattle.spec_scopes.specs.Scopes.{names_apart, own_names, slot_of};
+ghost use Rattle.spec_scopes.specs.Told.{first_repeat};
+
+use crate::chains::Chains;
+use crate::context::{Context, child_context};
+use crate::declare::slots_of;
+use crate::names::{put_apart, put_own};
+use crate::slots::Slots;
+use snap_ast::{Form, TreeNode};
+use snap_graph::ScopeKind;
+use snap_text::NoMemory;
+use spec_scopes::ScopeFault;
+use std::alloc::Global;
+
+// The slots of the names of which no two may be the same.
+fn apart_slots(alloc: Global, nodes: &[TreeNode], form: &Form) -> Result<Slots, ScopeFault>
+    ensures slots { IfOk result (λ slots. slots ≡ map slot_of (names_apart nodes.now form.now)) }
+    ensures apart { OnOk result (first_repeat (names_apart nodes.now form.now) ≡ None) }
+    ensures err { IfErr result (IsTold (first_repeat (names_apart nodes.now form.now))) }
+{
+    let mut names = Vec::new(alloc);
+    match put_apart(nodes, form, &mut names) {
+        Ok(()) => slots_of(alloc, &names),
+        Err(NoMemory) => Err(ScopeFault::NoMemory),
+    }
+}
+
+// The slots of the one name of a catch, which can't repeat.
+fn catch_slots(alloc: Global, nodes: &[TreeNode], form: &Form) -> Result<Slots, NoMemory>
+    ensures { IfOk result (λ slots. slots ≡ map slot_of (own_names nodes.now form.now).names) }
+{
+    let mut names = Vec::new(alloc);
+    put_own(nodes, form, &mut names)?;
+    match slots_of(alloc, &names) {
+        Ok(slots) => Ok(slots),
+        Err(_) => Err(NoMemory),
+    }
+}
+
+/// The slots of the scope that a node makes, where its names are apart.
+pub(crate) fn own_slots(alloc: Global, nodes: &[TreeNode], form: &Form) -> Result<Slots, ScopeFault>
+    ensures slots { IfOk result (λ slots. slots ≡ map slot_of (own_names nodes.now form.now).names) }
+    ensures apart { OnOk result (first_repeat (names_apart nodes.now form.now) ≡ None) }
+    ensures err { IfErr result (IsTold (first_repeat (names_apart nodes.now form.now))) }
+{
+    match form {
+        Form::TryCatchName { .. } => match apart_slots(alloc, nodes, form) {
+            Ok(_) => match catch_slots(alloc, nodes, form) {
+                Ok(slots) => Ok(slots),
+                Err(NoMemory) => Err(ScopeFault::NoMemory),
+            },
+            Err(fault) => Err(fault),
+        },
+        _ => apart_slots(alloc, nodes, form),
+    }
+}
+
+/// Adds the scope of a node inside a chain, where it has slots, and gives its number.
+pub(crate) fn enter(
+    alloc: Global,
+    chain: usize,
+    kind: ScopeKind,
+    slots: Slots,
+    chains: &mut Chains,
+) -> Result<Option<usize>, NoMemory>
+    requires within { chain < length chains.old.chains }
+    requires few { length (chain_in chains.old chain) < 2 ^ 32 }
+    ensures { IfOk result (λ own. Enters chain kind slots own chains.old chains.new) }
+{
+    if slots.len() == 0 {
+        return Ok(None);
+    }
+    let own = chains.add(alloc, chain, kind, slots)?;
+    Ok(Some(own))
+}
+
+/// Gives the children of a node what they have from it.
+pub(crate) fn spread(
+    form: &Form,
+    context: Context,
+    own: Option<usize>,
+    children: &[u32],
+    contexts: &mut Vec<Context>,
+)
+    requires { Each (λ child. child < length contexts.old.items) children.now }
+    ensures long { length contexts.new.items ≡ length contexts.old.items }
+    ensures children { (child : ℕ) → IsAmong children.now child → slice_get contexts.new.items child ≡ Some (child_context form.now context own child) }
+    ensures others { (other : ℕ) → (IsAmong children.now other → ⊥) → slice_get contexts.new.items other ≡ slice_get contexts.old.items other }
+{
+    for child in children {
+        contexts[*child as usize] = child_context(form, context, own, *child);
+    }
+}

@@ -1,0 +1,75 @@
+//! The names of a scope with their slots.
+
+ghost use Rattle.std.specs.Prelude.{◌≡◌, ◌∷◌, [], ◌++◌, ◌<◌, ℕ, length, position, None, OnOk, IfOk, IfErr};
+ghost use Rattle.std.specs.Option.{option_map};
+ghost use Rattle.std.specs.Str.{bytes_eq as text_eq};
+ghost use Rattle.spec_scopes.specs.Slots.{at_slot, place_in};
+
+use indexmap::IndexMap;
+use snap_text::NoMemory;
+use spec_scopes::SlotPlace;
+use std::alloc::Global;
+use std::marker::Model;
+
+/// The names of a scope, each with whether it is a constant, in order of declaration. They are seen as the
+/// list of the slots.
+#[derive(Drop)]
+pub(crate) struct Slots {
+    names: IndexMap<Vec<u8>, bool>,
+}
+
+impl Model for Slots {
+    ghost use Rattle.std.specs.Prelude.{List, map, length, ◌<◌, ◌^◌};
+    ghost use Rattle.spec_scopes.specs.Scopes.{Slot};
+
+    ghost Value = { List Slot };
+
+    ghost view = { λ slots. map (λ entry. record { name = entry.0.items; is_constant = entry.1 }) slots.names.entries };
+
+    ghost invariant = { λ slots. length slots.names.entries < 2 ^ 32 };
+}
+
+impl Slots {
+    /// No names.
+    pub fn new(alloc: Global) -> Slots
+        ensures { result ≡ [] }
+    {
+        Slots {
+            names: IndexMap::new(alloc),
+        }
+    }
+
+    /// How many names there are.
+    pub fn len(&self) -> u32
+        ensures { result ≡ length self.now }
+    {
+        self.names.len() as u32
+    }
+
+    /// The slot of a name, seen from inside the scope.
+    pub fn find(&self, name: &[u8]) -> Option<SlotPlace>
+        ensures { result ≡ place_in self.now name.now }
+    {
+        match self.names.get_full(name) {
+            Some((slot, _, constant)) => Some(SlotPlace {
+                hops: 0,
+                slot: slot as u32,
+                constant: *constant,
+            }),
+            None => None,
+        }
+    }
+
+    /// Adds a name that is not there. Where 2^32 - 1 names are there, the answer is want of memory.
+    pub fn add(&mut self, alloc: Global, name: &[u8], is_constant: bool) -> Result<(), NoMemory>
+        requires { position (λ slot. text_eq name.now slot.name) self.old ≡ None }
+        ensures { OnOk result (self.new ≡ self.old ++ record { name = name.now; is_constant = is_constant } ∷ []) }
+    {
+        if self.names.len() >= u32::MAX as usize {
+            return Err(NoMemory);
+        }
+        let key = Vec::from_slice(alloc, name)?;
+        self.names.insert(key, is_constant)?;
+        Ok(())
+    }
+}

@@ -1,0 +1,123 @@
+//! The nodes of a tree, visited in order.
+
+ghost use Rattle.std.specs.Prelude.{◌≡◌, ◌<◌, ◌+◌, ◌^◌, ◌++◌, ◌∷◌, [], ℕ, List, Some, map, length, slice_get, OnOk, IfOk, IfErr};
+ghost use Rattle.snap_ast.specs.Lawful.{Lawful};
+ghost use Rattle.snap_ast.specs.Words.{Each};
+ghost use Rattle.snap_scope.specs.Chains.{chain_in};
+ghost use Rattle.snap_scope.specs.Faults.{IsTold, IsToldAt};
+ghost use Rattle.snap_scope.specs.Visit.{child_context, GoesIn, IsCleanAt, Visited};
+ghost use Rattle.snap_scope.specs.declared.context.Context.{Context};
+ghost use Rattle.spec_scopes.specs.Round.{IsAmong, numbers};
+ghost use Rattle.spec_scopes.specs.Scopes.{own_names, slot_of};
+ghost use Rattle.spec_scopes.specs.Told.{early_error};
+
+use crate::chains::Chains;
+use crate::checks::{check_target, is_stray};
+use crate::children::put_children;
+use crate::context::{Context, NodeEntry};
+use crate::enter::{enter, own_slots, spread};
+use crate::names::kind_of;
+use crate::slots::Slots;
+use snap_ast::{Form, Tree, TreeNode};
+use snap_text::NoMemory;
+use spec_scopes::ScopeFault;
+use std::alloc::Global;
+
+/// What is known once some nodes are visited.
+#[derive(Drop)]
+pub(crate) struct Pass {
+    /// The scopes that they make, and that of the script.
+    pub chains: Chains,
+    /// What their children have from them, by number.
+    pub contexts: Vec<Context>,
+    /// Their own scopes, by number.
+    pub entries: Vec<NodeEntry>,
+}
+
+// Refuses a node with its early error, or gives the slots of its own scope.
+fn check(alloc: Global, tree: &Tree, node: &TreeNode, context: Context) -> Result<Slots, ScopeFault>
+    ensures slots { IfOk result (λ slots. slots ≡ map slot_of (own_names tree.now.nodes node.now.form).names) }
+    ensures clean { OnOk result (IsCleanAt tree.now node.now context) }
+    ensures err { IfErr result (IsToldAt tree.now node.now context) }
+{
+    match check_target(tree.nodes.as_slice(), &node.form) {
+        Ok(()) => {
+            if is_stray(&node.form, context) {
+                return Err(ScopeFault::StrayJump(node.at));
+            }
+            own_slots(alloc, tree.nodes.as_slice(), &node.form)
+        }
+        Err(fault) => Err(fault),
+    }
+}
+
+// Gives the children of a node what they have from it.
+fn spread_all(
+    alloc: Global,
+    form: &Form,
+    context: Context,
+    own: Option<usize>,
+    contexts: &mut Vec<Context>,
+) -> Result<(), NoMemory>
+    requires { Each (λ child. child < length contexts.old.items) (numbers form.now) }
+    ensures long { OnOk result (length contexts.new.items ≡ length contexts.old.items) }
+    ensures children { OnOk result ((child : ℕ) → IsAmong (numbers form.now) child → slice_get contexts.new.items child ≡ Some (child_context form.now context own child)) }
+    ensures others { OnOk result ((other : ℕ) → (IsAmong (numbers form.now) other → ⊥) → slice_get contexts.new.items other ≡ slice_get contexts.old.items other) }
+{
+    let mut children = Vec::new(alloc);
+    put_children(form, &mut children)?;
+    spread(form, context, own, &children, contexts);
+    Ok(())
+}
+
+// The scope of a node whose slots are given, and what its children have from it.
+fn go_in(
+    alloc: Global,
+    node: &TreeNode,
+    context: Context,
+    slots: Slots,
+    pass: &mut Pass,
+) -> Result<(), NoMemory>
+    requires within { context.chain < length pass.old.chains.chains }
+    requires few { length (chain_in pass.old.chains context.chain) < 2 ^ 32 }
+    requires children { Each (λ child. child < length pass.old.contexts.items) (numbers node.now.form) }
+    ensures { OnOk result (GoesIn node.now.form context slots pass.old.chains pass.old.contexts.items pass.old.entries.items pass.new.chains pass.new.contexts.items pass.new.entries.items) }
+{
+    let own = enter(
+        alloc,
+        context.chain,
+        kind_of(&node.form),
+        slots,
+        &mut pass.chains,
+    )?;
+    spread_all(alloc, &node.form, context, own, &mut pass.contexts)?;
+    pass.entries.push(NodeEntry {
+        chain: context.chain,
+        own,
+    })?;
+    Ok(())
+}
+
+/// Visits the next node.
+pub(crate) fn visit(
+    alloc: Global,
+    tree: &Tree,
+    number: usize,
+    pass: &mut Pass,
+) -> Result<(), ScopeFault>
+    requires lawful { Lawful tree.now }
+    requires below { number < length tree.now.nodes }
+    requires visited { Visited tree.now pass.old.chains pass.old.contexts.items pass.old.entries.items number }
+    ensures ok { OnOk result (Visited tree.now pass.new.chains pass.new.contexts.items pass.new.entries.items (number + 1)) }
+    ensures err { IfErr result (IsTold (early_error tree.now)) }
+{
+    let node = &tree.nodes.as_slice()[number];
+    let context = pass.contexts[number];
+    match check(alloc, tree, node, context) {
+        Ok(slots) => match go_in(alloc, node, context, slots, pass) {
+            Ok(()) => Ok(()),
+            Err(NoMemory) => Err(ScopeFault::NoMemory),
+        },
+        Err(fault) => Err(fault),
+    }
+}

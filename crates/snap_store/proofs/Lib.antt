@@ -1,0 +1,11 @@
+mod Altering
+mod Either
+mod Filling
+mod Growing
+mod Indexing
+mod Keeping
+mod Ordering
+mod Owning
+mod Placing
+mod Pushing
+mod Sorting

@@ -1,0 +1,56 @@
+use Rattle.std.proofs.Common.{length, None, Some, ap, ◌∙◌, arith}
+use Rattle.std.proofs.lemmas.Bool.{le-leb, lt-leb}
+use Rattle.snap_store.specs.Plain.{node_in, value_in}
+use Rattle.snap_store.specs.PlainHeaps.{heap_nodes, heap_properties}
+use Rattle.snap_store.proofs.Altering.{here, is_changed, keeps_lawful, keeps_within, kind_here, loose_here, place_here}
+use Rattle.spec_values.specs.Operations.{put_under, with_properties}
+use Rattle.spec_values.proofs.Elements.{with_own_lawful}
+use Rattle.snap_store.proofs.Altering.{is_same, same_lawful}
+use Rattle.snap_store.proofs.Either.{either_way, on_err}
+use Rattle.snap_store.proofs.Filling.{full_kept}
+use Rattle.snap_store.proofs.plain_heap.PlainHeap.create.Goals as goal
+
+pub invariant_of-self : goal.invariant_of-self
+invariant_of-self c =
+    let heap = c.args.self.now in
+    let old = c.index_mut.result.now in
+    let read = c.index_mut.ensures.value in
+    record {
+      lawful = either_way c.create.result c.create.ensures.means c.create.ensures.err
+          (λ means. keeps_lawful heap.texts.items heap.nodes.items c.args.node old c.requires.number read c.create.new.self
+          (with_properties (put_under c.args.key (value_in heap.texts.items c.args.held)))
+          (means heap.texts.items (place_here heap.texts.items heap.nodes.items c.args.node old c.requires.number read c.args.key None c.requires.place))
+          (with_own_lawful (heap_nodes heap) c.args.node (node_in heap.texts.items old) heap.lawful (here heap.texts.items heap.nodes.items c.args.node old c.requires.number read) c.args.key (value_in heap.texts.items c.args.held) (loose_here heap.texts.items heap.nodes.items c.args.node old c.requires.number read c.requires.frozen) c.requires.value (λ e. c.requires.element (kind_here heap.texts.items heap.nodes.items c.args.node old c.requires.number read ∙ ap Some e))))
+          (λ same. same_lawful heap.texts.items heap.nodes.items c.args.node old c.requires.number read c.create.new.self (same heap.texts.items) heap.lawful);
+      within = keeps_within heap.texts.items heap.nodes.items c.args.node old c.requires.number read (length heap.texts.items) c.create.new.self heap.within
+          (λ h. c.create.ensures.within (length heap.texts.items) h c.requires.owned.0);
+    }
+
+pub returns-in_err-create-clause-err : goal.returns-in_err-create-clause-err
+returns-in_err-create-clause-err c =
+    let heap = c.args.self.now in
+    let old = c.index_mut.result.now in
+    let read = c.index_mut.ensures.value in
+    on_err c.from_residual.result (is_same heap.texts.items heap.nodes.items c.args.node old c.requires.number read c.create.new.self (c.in_err-create.ensures.err heap.texts.items))
+
+pub returns-clause-nodes : goal.returns-clause-nodes
+returns-clause-nodes c =
+    let heap = c.args.self.now in
+    let old = c.index_mut.result.now in
+    let read = c.index_mut.ensures.value in
+    let means = c.in_ok-create.ensures.means in
+    is_changed heap.texts.items heap.nodes.items c.args.node old c.requires.number read c.create.new.self
+    (with_properties (put_under c.args.key (value_in heap.texts.items c.args.held)))
+    (means heap.texts.items (place_here heap.texts.items heap.nodes.items c.args.node old c.requires.number read c.args.key None c.requires.place))
+
+pub returns-then-properties-clause-fault : goal.returns-then-properties-clause-fault
+returns-then-properties-clause-fault c =
+    let heap = c.args.self.now in
+    let full = full_kept heap.texts.items heap.nodes.items c.args.node c.args.key c.requires.place in
+    full ∙ le-leb 1048576 (length (heap_properties heap c.args.node)) (omega (arith, ap length c.properties.ensures, c.if-properties.true))
+
+pub returns-clause-fault : goal.returns-clause-fault
+returns-clause-fault c =
+    let heap = c.args.self.now in
+    let full = full_kept heap.texts.items heap.nodes.items c.args.node c.args.key c.requires.place in
+    full ∙ lt-leb 1048576 (length (heap_properties heap c.args.node)) (omega (arith, ap length c.properties.ensures, c.if-properties.false))

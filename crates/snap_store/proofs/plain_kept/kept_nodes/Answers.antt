@@ -1,0 +1,12 @@
+use Rattle.snap_store.specs.Following.{begins_still}
+use Rattle.snap_store.proofs.Keeping.{nodes_step}
+use Rattle.snap_store.proofs.plain_kept.kept_nodes.Goals as goal
+
+pub loop-node-preserved : goal.loop-node-preserved
+loop-node-preserved c =
+    let before = c.loop-node.texts.items in
+    let after = c.kept_node.new.texts.items in (
+      begins_still c.args.texts.now.items before after c.loop-node.invariant.0 c.kept_node.ensures.texts,
+      nodes_step before after c.loop-node.kept.items c.push.new.self.items c.loop-node.yielded c.in_ok-kept_node.field-0 c.in-Some.node
+          c.loop-node.invariant.1 c.kept_node.ensures.texts c.in_ok-kept_node.ensures.kept c.in_ok-push.ensures.items,
+    )

@@ -1,0 +1,23 @@
+use Rattle.std.proofs.Common.{List, None, Some, is_some, sym, ap, subst}
+use Rattle.snap_store.specs.declared.plain_node.PlainProperty.{PlainProperty}
+use Rattle.snap_store.specs.Plain.{IsPlaceOf}
+use Rattle.snap_store.proofs.Filling.{own_none, own_some, without_none}
+use Rattle.snap_store.proofs.plain_store.PlainStoreStore.remove_own.Goals as goal
+
+pub returns-in-Some-clause-found : goal.returns-in-Some-clause-found
+returns-in-Some-clause-found g c = λ text e.
+    let heap = c.args.self.now.heap in
+    let found = subst (λ (ps : List PlainProperty). IsPlaceOf text ps (Some c.in-Some.place)) c.properties.ensures (c.in-Some.ensures text e) in
+    sym (own_some heap.texts.items heap.nodes.items c.args.node text c.in-Some.place found)
+
+pub returns-in-None-clause-found : goal.returns-in-None-clause-found
+returns-in-None-clause-found g c = λ text e.
+    let heap = c.args.self.now.heap in
+    let none = subst (λ (ps : List PlainProperty). IsPlaceOf text ps None) c.properties.ensures (c.in-None.ensures text e) in
+    sym (ap is_some (own_none heap.texts.items heap.nodes.items c.args.node text none))
+
+pub returns-in-None-clause-nodes : goal.returns-in-None-clause-nodes
+returns-in-None-clause-nodes g c = λ text e.
+    let heap = c.args.self.now.heap in
+    let none = subst (λ (ps : List PlainProperty). IsPlaceOf text ps None) c.properties.ensures (c.in-None.ensures text e) in
+    without_none heap.texts.items heap.nodes.items c.args.node text none

@@ -1,0 +1,63 @@
+-- What a store's calls ask for and answer.
+use Rattle.std.specs.Prelude.{◌≡◌, ℕ, ◌&&◌, Bool, true, false, not, nat_le, nat_lt, List, length, map, slice_get, Option, is_some, IfSome, Result, Ok, Err}
+use Rattle.std.specs.Option.{option_map}
+use Rattle.snap_base.specs.declared.limits.TheConstants.{MOST_ITEMS, MOST_PRIVATE_NODES, MOST_PROPERTIES}
+use Rattle.snap_graph.specs.declared.kind.Kind.{Kind}
+use Rattle.snap_graph.specs.declared.kind.Kind.TheVariants as kind
+use Rattle.snap_graph.specs.declared.node.Node.{Node}
+use Rattle.snap_graph.specs.declared.value.Value.{Value}
+use Rattle.snap_graph.specs.OwnKeys.{own_order}
+use Rattle.snap_store.specs.declared.fault.StoreFault.{StoreFault}
+use Rattle.snap_store.specs.declared.fault.StoreFault.TheVariants.{TooManyNodes, TooLong, NoMemory}
+use Rattle.spec_values.specs.Access.{is_array, kind_of}
+use Rattle.spec_values.specs.Operations.{MayHold, elements_of, is_frozen, own_value, properties_of}
+
+-- the prototype of a node
+abbrev pub prototype_of : List Node → ℕ → Option Value
+prototype_of nodes number = option_map (λ node. node.prototype) (slice_get nodes number)
+
+-- the keys of a node's own properties, in the order of own keys
+abbrev pub own_keys_of : List Node → ℕ → List (List ℕ)
+own_keys_of nodes number = map (λ property. property.key) (own_order (properties_of nodes number))
+
+-- a kind of nodes that stand for a dealing with the outside
+abbrev pub IsResource : Kind → Type 0
+IsResource kind.Plain = ⊥
+IsResource kind.Array = ⊥
+IsResource (kind.Function script tree) = ⊥
+IsResource (kind.Native native) = ⊥
+IsResource (kind.Scope scope) = ⊥
+IsResource kind.Error = ⊥
+IsResource kind.Map = ⊥
+IsResource kind.Set = ⊥
+IsResource (kind.Resource number closed) = Unit {0}
+
+-- a value may stand among the elements of a node
+abbrev pub MayStandIn : List Node → ℕ → Value → Type 0
+MayStandIn nodes number value = IfSome (kind_of nodes number) (λ kind. MayHold (length nodes) kind (is_frozen nodes number) value)
+
+-- one more private node is not too many
+abbrev pub has_room : ℕ → Bool
+has_room private_nodes = nat_lt private_nodes MOST_PRIVATE_NODES
+
+-- one more property would be too many, and the key is none of the node's
+abbrev pub is_full : List Node → ℕ → List ℕ → Bool
+is_full nodes number key = not (is_some (own_value nodes number key)) && nat_le MOST_PROPERTIES (length (properties_of nodes number))
+
+-- one more element would be too many, which is so of an array alone
+abbrev pub is_long : List Node → ℕ → Bool
+is_long nodes number = is_array (kind_of nodes number) && nat_le MOST_ITEMS (length (elements_of nodes number))
+
+-- refused with TooManyNodes exactly where there is no room, but for want of memory
+abbrev pub MakesWhere : Bool → Result ℕ StoreFault → Type 0
+MakesWhere room (Ok number) = room ≡ true
+MakesWhere room (Err TooManyNodes) = room ≡ false
+MakesWhere room (Err TooLong) = ⊥
+MakesWhere room (Err NoMemory) = Unit {0}
+
+-- refused with TooLong exactly where there would be too many, but for want of memory
+abbrev pub EndsWhere : Bool → Result Unit StoreFault → Type 0
+EndsWhere full (Ok done) = full ≡ false
+EndsWhere full (Err TooManyNodes) = ⊥
+EndsWhere full (Err TooLong) = full ≡ true
+EndsWhere full (Err NoMemory) = Unit {0}

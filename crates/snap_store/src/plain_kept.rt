@@ -1,0 +1,104 @@
+//! A graph, as it is kept.
+
+ghost use Rattle.std.specs.Prelude.{IfOk};
+ghost use Rattle.snap_store.specs.Kept.{AreKept, AreNodesKept, ArePropertiesKept, Begins, IsKept, IsNodeKept};
+
+use crate::plain_node::{PlainNode, PlainProperty, PlainValue};
+use snap_graph::{Items, Node, Property, Value};
+use snap_text::{NoMemory, Units};
+use std::alloc::Global;
+
+// A value. Its text goes behind the others.
+fn kept_value(texts: &mut Vec<Units>, value: Value) -> Result<PlainValue, NoMemory>
+    ensures texts { Begins texts.old.items texts.new.items }
+    ensures kept { IfOk result (λ held. IsKept texts.new.items held value) }
+{
+    Ok(match value {
+        Value::Undefined => PlainValue::Undefined,
+        Value::Null => PlainValue::Null,
+        Value::Bool(truth) => PlainValue::Bool(truth),
+        Value::Int(number) => PlainValue::Int(number),
+        Value::Text(text) => {
+            let place = texts.len();
+            texts.push(text)?;
+            PlainValue::Text(place)
+        }
+        Value::Node(node) => PlainValue::Node(node),
+        Value::Empty => PlainValue::Empty,
+    })
+}
+
+fn kept_values(
+    alloc: Global,
+    texts: &mut Vec<Units>,
+    values: Items<Value>,
+) -> Result<Vec<PlainValue>, NoMemory>
+    ensures texts { Begins texts.old.items texts.new.items }
+    ensures kept { IfOk result (λ kept. AreKept texts.new.items kept.items values) }
+{
+    let mut kept = Vec::new(alloc);
+    for value in values.into_vec() {
+        kept.push(kept_value(texts, value)?)?;
+    }
+    Ok(kept)
+}
+
+fn kept_properties(
+    alloc: Global,
+    texts: &mut Vec<Units>,
+    properties: Items<Property>,
+) -> Result<Vec<PlainProperty>, NoMemory>
+    ensures texts { Begins texts.old.items texts.new.items }
+    ensures kept { IfOk result (λ kept. ArePropertiesKept texts.new.items kept.items properties) }
+{
+    let mut kept = Vec::new(alloc);
+    for property in properties.into_vec() {
+        let Property { key, value } = property;
+        let value = kept_value(texts, value)?;
+        kept.push(PlainProperty { key, value })?;
+    }
+    Ok(kept)
+}
+
+// A node. Where it has 2^32 elements or more, the answer is want of memory.
+fn kept_node(alloc: Global, texts: &mut Vec<Units>, node: Node) -> Result<PlainNode, NoMemory>
+    ensures texts { Begins texts.old.items texts.new.items }
+    ensures kept { IfOk result (λ kept. IsNodeKept texts.new.items kept node) }
+{
+    let Node {
+        kind,
+        prototype,
+        frozen,
+        properties,
+        elements,
+    } = node;
+    if elements.as_slice().len() > u32::MAX as usize {
+        return Err(NoMemory);
+    }
+    let prototype = kept_value(texts, prototype)?;
+    let properties = kept_properties(alloc, texts, properties)?;
+    let elements = kept_values(alloc, texts, elements)?;
+    Ok(PlainNode {
+        kind,
+        prototype,
+        frozen,
+        properties,
+        elements,
+    })
+}
+
+// The nodes, with their texts behind the others.
+pub(crate) fn kept_nodes(
+    alloc: Global,
+    texts: &mut Vec<Units>,
+    nodes: Items<Node>,
+) -> Result<Vec<PlainNode>, NoMemory>
+    ensures texts { Begins texts.old.items texts.new.items }
+    ensures kept { IfOk result (λ kept. AreNodesKept texts.new.items kept.items nodes) }
+{
+    let mut kept = Vec::new(alloc);
+    for node in nodes.into_vec() {
+        kept.push(kept_node(alloc, texts, node)?)?;
+    }
+    Ok(kept)
+}

@@ -1,0 +1,6 @@
+pub mod Firsts
+pub mod Resolved
+pub mod Rounds
+pub mod Spans
+pub mod Standing
+pub mod Told
