@@ -6,9 +6,10 @@ Usage, from the root of the repository, once `rt ci` or `rt all verdict` has bui
     python3 bench/scopes.py
 
 The script has 0.5 and 1 MiB, a tree without early errors, and is not thin: `snap` reads its tree, finds its
-scopes and ends with `not built`. The same script with `)` as its last byte has no tree, which `snap` tells
-once it has read all the rest, without any scope. Both are run in turn. The least seconds of each are printed,
-the ratio of the two (bar: at most 1.5), and by what the time grows as the script doubles.
+scopes and ends with `not built`. The same script that declares at its end a name twice is refused for that once
+its whole tree is read and numbered, since the names of the script are looked at before any other scope. Both
+are run in turn. The least seconds of each are printed, the ratio of the two (bar: at most 1.5), and by what the
+time grows as the script doubles.
 """
 
 import os
@@ -36,28 +37,28 @@ def nested(number, level):
 
 
 def script(size, last):
-    """A script of exactly so many bytes, of which this is the last one."""
+    """A script of exactly so many bytes that ends so."""
     parts, left, number = [], size, 0
     while left > 10_000:
         part = f"function outer{number}(first{number}, second{number}, third{number}) {{\n{nested(number, 0)}}}\n"
         parts.append(part)
         left -= len(part)
         number += 1
-    parts.append("//" + "-" * (left - 4) + "\n" + last)
+    parts.append("//" + "-" * (left - 3 - len(last)) + "\n" + last)
     return "".join(parts)
 
 
 def measure(size):
     """The least seconds of `snap` on a script of so many bytes."""
     with tempfile.TemporaryDirectory() as folder:
-        for name, last in (("right.js", ";"), ("wrong.js", ")")):
+        for name, last in (("right.js", "let a;let b;"), ("twice.js", "let a;let a;")):
             with open(os.path.join(folder, name), "w", encoding="ascii") as file:
                 file.write(script(size, last))
-        refused = f"source refused: wrong.js Syntax at {size - 1}\n".encode()
+        refused = f"source refused: twice.js Duplicate at {size - 2}\n".encode()
         judged, read = [], []
         for _ in range(RUNS):
             judged.append(run([SNAP, "build", "right.js"], folder, b"not built\n", 11))
-            read.append(run([SNAP, "build", "wrong.js"], folder, refused, 3))
+            read.append(run([SNAP, "build", "twice.js"], folder, refused, 3))
     whole, alone = (tuple(min(seconds) for seconds in zip(*runs)) for runs in (judged, read))
     print(f"script            {size} bytes")
     print(f"judged            {whole[0]:.3f} s, {whole[1]:.3f} s of processors, {whole[2] * 1024 / size:.1f} bytes a byte")
