@@ -5,7 +5,7 @@ import subprocess
 import sys
 import time
 
-RUNS = 5
+RUNS = 15
 NAMES = (10_000, 20_000)
 ROOT = os.path.dirname(os.path.dirname(os.path.abspath(__file__)))
 SNAP = os.path.join(ROOT, "crates", "snap", "out", "snap")

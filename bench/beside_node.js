@@ -3,7 +3,7 @@
 //
 // Usage, from the root of the repository: node bench/beside_node.js
 //
-// It reads the tables of crates/snap_parse/src/tests/beside_node.rt, makes each source a script with
+// It reads the tables of crates/parse_rows/src/tests/beside_node.rt, makes each source a script with
 // 'use strict'; before it, and prints each row whose mark is not the answer, or the number of the rows.
 
 'use strict';
@@ -11,7 +11,7 @@ const fs = require('fs');
 const path = require('path');
 const vm = require('vm');
 
-const FILE = path.join(__dirname, '..', 'crates', 'snap_parse', 'src', 'tests', 'beside_node.rt');
+const FILE = path.join(__dirname, '..', 'crates', 'parse_rows', 'src', 'tests', 'beside_node.rt');
 const ESCAPES = { n: '\n', t: '\t', '"': '"', '\\': '\\' };
 
 function rowsOf(text) {

@@ -3,7 +3,7 @@
 //
 // Usage, from the root of the repository: node bench/early_errors.js
 //
-// It reads the tables of crates/snap_scope/src/tests/faults.rt and makes each source a script with
+// It reads the tables of crates/scope_rows/src/tests/faults.rt and makes each source a script with
 // 'use strict'; before it. It prints each row of which Node.js says something else than its table does, or the number
 // of the rows.
 
@@ -12,7 +12,7 @@ const fs = require('fs');
 const path = require('path');
 const vm = require('vm');
 
-const FILE = path.join(__dirname, '..', 'crates', 'snap_scope', 'src', 'tests', 'faults.rt');
+const FILE = path.join(__dirname, '..', 'crates', 'scope_rows', 'src', 'tests', 'faults.rt');
 const STRICT = "'use strict';";
 
 // Whether an error stands at the mark. Node.js tells the `function` before a name that is declared twice.

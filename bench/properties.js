@@ -4,7 +4,7 @@
 // Usage, from the root of the repository: node bench/properties.js [--print]
 //
 // It asks each question below of new objects, and checks that the tables of
-// crates/snap_object/src/tests/beside_node.rt are the answers, in this order; with --print it writes the tables.
+// crates/heap_rows/src/tests/access/beside_node.rt are the answers, in this order; with --print it writes the tables.
 // A question is one or more steps, and its answer is that of the last. A node is written as # with its number.
 // Where the profile differs from Node.js, the answer is that of the profile, in a table of its own.
 
@@ -12,7 +12,7 @@
 const fs = require('fs');
 const path = require('path');
 
-const FILE = path.join(__dirname, '..', 'crates', 'snap_object', 'src', 'tests', 'beside_node.rt');
+const FILE = path.join(__dirname, '..', 'crates', 'heap_rows', 'src', 'tests', 'access', 'beside_node.rt');
 
 // The nodes from number 62 on, as the tests make them.
 function objects() {

@@ -1,42 +1,12 @@
 //! `snap`: startup snapshots of JavaScript heaps.
 #![tactic(auto)]
 
-mod build;
-mod building;
-mod evaluate;
-mod fault;
-mod judge;
-mod keeping;
-mod kept;
-mod line;
-mod load;
-mod names;
-mod outcome;
-mod own;
-mod parts;
-mod properties;
-mod refused;
-mod running;
-mod said;
-mod serial;
-mod shapes;
-mod statement;
-mod strings;
-mod texts;
-mod verify;
-mod words;
-
-use serial::snap_serial;
+use snap_commands::snap_serial;
 use snap_io::{OsFiles, StdSink};
 use std::io::ErrorKind;
 use std::process::ExitCode;
 use std::rt::Env;
 use std::{env, io};
-
-#[cfg(test)]
-mod run_tests;
-#[cfg(test)]
-mod tests;
 
 /// The status of a run that found no memory.
 const NO_MEMORY: u8 = 9;

@@ -20,17 +20,3 @@ pub struct Tree {
     /// The numbers of the statements of the script, in order.
     pub top: Items<u32>,
 }
-
-#[cfg(test)]
-mod tests {
-    use super::*;
-    use std::mem::size_of;
-    use std::test::Fail;
-
-    #[test]
-    fn is_small(rt: HostRuntime) -> Result<(), Fail> {
-        assert_eq!(rt; size_of::<Form>(), 64);
-        assert_eq!(rt; size_of::<TreeNode>(), 72);
-        Ok(())
-    }
-}

@@ -22,6 +22,3 @@ pub use spec_format::{BlobFault, BlobKind};
 pub use startup_reader::{Startup, read_startup};
 pub use startups::{ShapeStep, write_startup};
 pub use strings::write_strings;
-
-#[cfg(test)]
-mod tests;

@@ -10,6 +10,3 @@ mod writing;
 pub use cursor::Cursor;
 pub use fault::{ByteFault, NoMemory};
 pub use writing::put_varint;
-
-#[cfg(test)]
-mod tests;

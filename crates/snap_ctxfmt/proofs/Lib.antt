@@ -1,4 +1,3 @@
-pub mod Examples
 pub mod Fronts
 pub mod Keys
 pub mod Numbers
@@ -6,4 +5,3 @@ pub mod Places
 pub mod Properties
 pub mod Results
 pub mod Sections
-pub mod Three

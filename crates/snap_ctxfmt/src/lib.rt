@@ -13,6 +13,3 @@ mod writing;
 pub use reading::read_global;
 pub use texts::text_number;
 pub use writing::write_global;
-
-#[cfg(test)]
-mod tests;

@@ -44,17 +44,3 @@ impl<T> Items<T> {
         items
     }
 }
-
-#[cfg(test)]
-mod tests {
-    use super::*;
-    use std::test::Fail;
-
-    #[test]
-    fn keeps_items(rt: HostRuntime) -> Result<(), Fail> {
-        let items = Items::from_vec(Vec::from_slice(rt.alloc(), &[3u32, 1, 2])?);
-        assert_eq!(rt; items.as_slice(), [3, 1, 2].as_slice());
-        assert_eq!(rt; items.into_vec().as_slice(), [3, 1, 2].as_slice());
-        Ok(())
-    }
-}

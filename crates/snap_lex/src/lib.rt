@@ -7,8 +7,6 @@ mod lexer;
 mod marks;
 mod numbers;
 mod pieces;
-#[cfg(test)]
-mod tests;
 mod texts;
 mod words;
 

@@ -10,8 +10,6 @@ mod names;
 mod reading;
 mod search;
 mod sizes;
-#[cfg(test)]
-mod tests;
 mod words;
 mod writing;
 

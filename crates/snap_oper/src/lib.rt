@@ -9,8 +9,6 @@ mod fault;
 mod joining;
 mod laws;
 mod operators;
-#[cfg(test)]
-mod tests;
 
 pub use fault::OperFault;
 pub use laws::values_are_operands;

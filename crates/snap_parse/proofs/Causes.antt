@@ -1,5 +1,5 @@
 -- What a source is read as, in the language's own words.
-use Rattle.std.proofs.Common.{◌≡◌, ℕ, ◌≤◌, List, ◌⊎◌, inl, inr, Result, Ok, Err, length, refl, sym, ap, ◌∙◌}
+use Rattle.std.proofs.Common.{◌≡◌, ℕ, List, ◌⊎◌, inl, inr, Result, Ok, Err, length, refl, ap}
 use Rattle.std.specs.Prelude.{IfErr, IfOk}
 use Rattle.snap_ast.specs.Lawful.{Lawful}
 use Rattle.snap_ast.specs.declared.tree.Tree.{Tree}
@@ -14,19 +14,20 @@ use Rattle.spec_grammar.specs.Phrase.{Row}
 use Rattle.spec_grammar.specs.Read.{script}
 use Rattle.spec_grammar.specs.Source.{HasDeepTree, HasTree, NoTokens, NoTree, Refused, read_tree, tree_among, tree_by}
 use Rattle.spec_grammar.proofs.LawfulTrees.{tree_lawful}
-use Rattle.spec_grammar.proofs.Sources.{deep_is_nested, read_is_tree, refused_has_none, syntax_has_none, tree_is_read}
+use Rattle.spec_grammar.proofs.Sources.{deep_is_nested, read_is_tree, refused_has_none, syntax_has_none}
 use Rattle.snap_parse.specs.Answers.{GivesRefusal, GivesTree, HasCause, IsNested, IsRefusal, source_fault}
 use Rattle.snap_parse.specs.declared.fault.SourceFault.{SourceFault}
+use Rattle.snap_parse.specs.declared.parser.Parsed.{Parsed}
 use Rattle.snap_parse.specs.declared.fault.SourceFault.TheVariants as fault
 
 -- ---- a tree
 
-pub tree_ok : (source : List ℕ) (answer : Result Tree SourceFault) → IfOk answer (λ tree. read_tree source ≡ Ok tree) → IfOk answer (λ tree. HasTree source tree)
-tree_ok source (Ok tree) is = read_is_tree source tree is
+pub tree_ok : (source : List ℕ) (answer : Result Parsed SourceFault) → IfOk answer (λ parsed. read_tree source ≡ Ok parsed.tree) → IfOk answer (λ parsed. HasTree source parsed.tree)
+tree_ok source (Ok parsed) is = read_is_tree source parsed.tree is
 tree_ok source (Err fault) is = tt
 
-pub lawful_ok : (source : List ℕ) (answer : Result Tree SourceFault) → IfOk answer (λ tree. read_tree source ≡ Ok tree) → IfOk answer Lawful
-lawful_ok source (Ok tree) is = tree_lawful source tree (read_is_tree source tree is)
+pub lawful_ok : (source : List ℕ) (answer : Result Parsed SourceFault) → IfOk answer (λ parsed. read_tree source ≡ Ok parsed.tree) → IfOk answer (λ parsed. Lawful parsed.tree)
+lawful_ok source (Ok parsed) is = tree_lawful source parsed.tree (read_is_tree source parsed.tree is)
 lawful_ok source (Err fault) is = tt
 
 -- ---- no tokens
@@ -67,8 +68,8 @@ refusal_cause source (fault.Nested at) is = inr (read_cause source (NoTree Neste
 refusal_cause source fault.TooLong is = inr is
 refusal_cause source fault.NoMemory is = inl refl
 
-pub refused_for : (source : List ℕ) (answer : Result Tree SourceFault) → IfErr answer (IsRefusal source) → IfErr answer (λ found. (found ≡ fault.NoMemory) ⊎ HasCause source found)
-refused_for source (Ok tree) is = tt
+pub refused_for : (source : List ℕ) (answer : Result Parsed SourceFault) → IfErr answer (IsRefusal source) → IfErr answer (λ found. (found ≡ fault.NoMemory) ⊎ HasCause source found)
+refused_for source (Ok parsed) is = tt
 refused_for source (Err found) is = refusal_cause source found is
 
 -- ---- too high

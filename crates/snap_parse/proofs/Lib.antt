@@ -1,10 +1,5 @@
-pub mod NamesFrom
-pub mod Parens
-pub mod Turns
 pub mod Climb
-pub mod Past
 pub mod Rise
 pub mod Script
-pub mod Numbering
 pub mod Tokens
 pub mod Causes

@@ -12,8 +12,9 @@ use Rattle.spec_grammar.specs.contracts.sign.Sign.{the_type}
 use Rattle.spec_grammar.specs.declared.sign.Sign.{Sign}
 use Rattle.spec_grammar.specs.declared.sign.Sign.TheVariants as s
 use Rattle.spec_grammar.specs.declared.start.Start.{Start}
-use Rattle.snap_parse.specs.Groups.{closing, finished, past}
-use Rattle.snap_parse.proofs.Parens.{parens-more, parens-stop}
+use Rattle.snap_cursor.specs.Past.{past}
+use Rattle.snap_parse.specs.Groups.{closing, finished}
+use Rattle.snap_cursor.proofs.Opening.{parens-more, parens-stop}
 
 is_sign : (sign : Sign) (input : List Lexeme) → sees sign input ≡ true → sign_at input ≡ sign
 unfolding sees same_sign

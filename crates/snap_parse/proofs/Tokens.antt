@@ -11,7 +11,7 @@ use Rattle.spec_tokens.specs.declared.piece.TokenKind.TheVariants as kind
 use Rattle.spec_grammar.specs.Sign.{Row, marks, sign_among, sign_of, words}
 use Rattle.spec_grammar.specs.declared.sign.Sign.{Sign}
 use Rattle.spec_grammar.specs.declared.sign.Sign.TheVariants as s
-use Rattle.snap_parse.specs.Read.{AreRead, IsRead}
+use Rattle.snap_cursor.specs.Read.{AreRead, IsRead}
 
 -- a number or a text
 is_literal : Sign → Bool

@@ -5,10 +5,11 @@ use Rattle.spec_tokens.specs.declared.fault.LexFault.TheVariants as lex
 use Rattle.spec_grammar.specs.Outcome.{Nested, Syntax}
 use Rattle.spec_grammar.specs.Source.{HasDeepTree, HasTree, NoTokens, NoTree, Refused, read_tree}
 use Rattle.spec_tokens.specs.Faults.{HasFault}
-use Rattle.snap_parse.specs.declared.fault.ReadFault.{ReadFault}
-use Rattle.snap_parse.specs.declared.fault.ReadFault.TheVariants as reason
+use Rattle.snap_cursor.specs.declared.fault.ReadFault.{ReadFault}
+use Rattle.snap_cursor.specs.declared.fault.ReadFault.TheVariants as reason
 use Rattle.snap_parse.specs.declared.fault.SourceFault.{SourceFault}
 use Rattle.snap_parse.specs.declared.fault.SourceFault.TheVariants as fault
+use Rattle.snap_parse.specs.declared.parser.Parsed.{Parsed}
 
 -- why there is no tree, with the place
 abbrev pub fault_of : ReadFault → ℕ → SourceFault
@@ -42,6 +43,11 @@ HasCause source (fault.Syntax at) = (tree : Tree) → HasDeepTree source tree �
 HasCause source (fault.Nested at) = (tree : Tree) → HasTree source tree → ⊥
 HasCause source fault.TooLong = 1048576 < length source
 HasCause source fault.NoMemory = ⊥
+
+-- the tree that comes with the tokens of a source
+abbrev pub tree_in : Result Parsed SourceFault → Result Tree SourceFault
+tree_in (Ok parsed) = Ok parsed.tree
+tree_in (Err fault) = Err fault
 
 -- a tree that is too high is refused as such, or memory ran out
 abbrev pub IsNested : Result Tree SourceFault → Type 0

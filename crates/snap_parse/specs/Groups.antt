@@ -1,17 +1,10 @@
--- What stands behind some tokens, and what becomes of a phrase in parentheses inside others.
-use Rattle.std.specs.Prelude.{ℕ, zero, suc, List, true}
-use Rattle.spec_tokens.specs.Tokens.{Lexeme}
+-- What becomes of a phrase in parentheses inside others.
+use Rattle.std.specs.Prelude.{ℕ, true}
 use Rattle.spec_grammar.specs.Outcome.{Parser, and_then, expect, pure}
 use Rattle.spec_grammar.specs.Phrase.{Phrase, wrapped}
 use Rattle.spec_grammar.specs.ReadExpressions.{climb, postfix, sequel, tail}
-use Rattle.spec_grammar.specs.Sign.{next}
 use Rattle.spec_grammar.specs.declared.sign.Sign.TheVariants as s
 use Rattle.spec_grammar.specs.declared.start.Start.{Start}
-
--- the tokens behind so many
-unfoldable pub past : ℕ → List Lexeme → List Lexeme
-past zero input = input
-past (suc count) input = past count (next input)
 
 -- the closing parenthesis, and the phrase in the two, the first of which stands at a place
 unfoldable pub closing : ℕ → Phrase → Parser Phrase

@@ -6,8 +6,8 @@ use Rattle.spec_tokens.specs.Tokens.{Lexeme}
 use Rattle.spec_grammar.specs.Phrase.{Phrase}
 use Rattle.spec_grammar.specs.Read.{phrase}
 use Rattle.spec_grammar.specs.declared.start.Start.{Start}
-use Rattle.snap_parse.specs.declared.fault.ReadFault.{ReadFault}
-use Rattle.snap_parse.specs.Reads.{Reads}
+use Rattle.snap_cursor.specs.declared.fault.ReadFault.{ReadFault}
+use Rattle.snap_cursor.specs.Reads.{Reads}
 
 pub record Nests (room : ℕ) (pre : Global → MutBor (List Lexeme) → ℕ → Start → Type 0)
     (post : Global → MutBor (List Lexeme) → ℕ → Start → Result Phrase ReadFault → MutBor (List Lexeme) → Type 0) : Type 0 where

@@ -1,20 +1,16 @@
 //! Assignments, conditionals and arrows.
 
 ghost use Rattle.snap_parse.specs.Nests.{Nests};
-ghost use Rattle.snap_parse.specs.Reads.{Reads};
+ghost use Rattle.snap_cursor.specs.Reads.{Reads};
 ghost use Rattle.spec_grammar.specs.Operators.{Assignment, Choice};
 ghost use Rattle.spec_grammar.specs.Read.{phrase};
 ghost use Rattle.spec_grammar.specs.ReadExpressions as spec;
 ghost use Rattle.spec_grammar.specs.Sign.{start_at};
 
-use crate::cursor::Cursor;
-use crate::fault::ReadFault;
 use crate::grammar::Grammar;
-use crate::head::ArrowHead;
-use crate::node::{arrow_body, arrow_value, assign_node, conditional_node};
-use crate::operator::{Sequel, sequel_of};
-use crate::phrase::Phrase;
 use snap_ast::{AssignOperator, Items, Named};
+use snap_cursor::{ArrowHead, Cursor, ReadFault, Sequel, sequel_of};
+use snap_phrase::{Phrase, arrow_body, arrow_value, assign_node, conditional_node};
 use spec_grammar::{Sign, Start};
 use std::alloc::Global;
 

@@ -2,17 +2,14 @@
 
 ghost use Rattle.std.specs.Prelude.{◌+◌};
 ghost use Rattle.snap_parse.specs.Nests.{Nests};
-ghost use Rattle.snap_parse.specs.Reads.{Reads};
+ghost use Rattle.snap_cursor.specs.Reads.{Reads};
 ghost use Rattle.spec_grammar.specs.Read.{phrase};
 ghost use Rattle.spec_grammar.specs.ReadExpressions as spec;
 
-use crate::cursor::Cursor;
-use crate::fault::ReadFault;
 use crate::grammar::Grammar;
-use crate::node::binary_node;
-use crate::operator::operator_at;
-use crate::phrase::Phrase;
 use snap_ast::BinaryOperator;
+use snap_cursor::{Cursor, ReadFault, operator_at};
+use snap_phrase::{Phrase, binary_node};
 use spec_grammar::Start;
 use std::alloc::Global;
 

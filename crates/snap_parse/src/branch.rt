@@ -1,16 +1,13 @@
 //! Branches and loops, each behind its first token, which stands at a place.
 
 ghost use Rattle.snap_parse.specs.Nests.{Nests};
-ghost use Rattle.snap_parse.specs.Reads.{Reads};
+ghost use Rattle.snap_cursor.specs.Reads.{Reads};
 ghost use Rattle.spec_grammar.specs.Read.{phrase};
 ghost use Rattle.spec_grammar.specs.ReadStatements as spec;
 
-use crate::cursor::Cursor;
-use crate::fault::ReadFault;
 use crate::grammar::Grammar;
-use crate::operator::begins_declaration;
-use crate::phrase::Phrase;
-use crate::statement_node::{if_else_node, if_node, while_node};
+use snap_cursor::{Cursor, ReadFault, begins_declaration};
+use snap_phrase::{Phrase, if_else_node, if_node, while_node};
 use spec_grammar::{Sign, Start};
 use std::alloc::Global;
 

@@ -2,19 +2,14 @@
 
 ghost use Rattle.std.specs.Prelude.{◌≡◌, true};
 ghost use Rattle.snap_parse.specs.Nests.{Nests};
-ghost use Rattle.snap_parse.specs.Reads.{Reads};
-ghost use Rattle.snap_parse.specs.Steps.{tail_in};
+ghost use Rattle.snap_cursor.specs.Reads.{Reads};
+ghost use Rattle.snap_cursor.specs.Steps.{tail_in};
 ghost use Rattle.spec_grammar.specs.Read.{phrase};
 ghost use Rattle.spec_grammar.specs.ReadExpressions as spec;
 
-use crate::cursor::Cursor;
-use crate::fault::ReadFault;
 use crate::grammar::Grammar;
-use crate::node::{call_node, index_node, member_node, new_node};
-use crate::operator::{Tail, is_tail, tail_of};
-use crate::part::word;
-use crate::phrase::Phrase;
-use crate::row::Row;
+use snap_cursor::{Cursor, ReadFault, Tail, is_tail, tail_of, word};
+use snap_phrase::{Phrase, Row, call_node, index_node, member_node, new_node};
 use spec_grammar::{Sign, Start};
 use std::alloc::Global;
 

@@ -1,20 +1,17 @@
 //! Declarations.
 
 ghost use Rattle.snap_parse.specs.Nests.{Nests};
-ghost use Rattle.snap_parse.specs.Reads.{Reads};
+ghost use Rattle.snap_cursor.specs.Reads.{Reads};
 ghost use Rattle.spec_grammar.specs.Read.{phrase};
 ghost use Rattle.spec_grammar.specs.ReadStatements as spec;
 
-use crate::cursor::Cursor;
-use crate::fault::ReadFault;
 use crate::grammar::Grammar;
-use crate::names::pattern;
-use crate::part::{name, semicolon};
-use crate::phrase::{Below, Phrase};
-use crate::property::{with_constant, with_name, with_pattern, with_value};
-use crate::row::Row;
-use crate::statement_node::{const_node, function_node, let_node};
 use snap_ast::{Binding, ConstBinding};
+use snap_cursor::{Cursor, ReadFault, name, pattern, semicolon};
+use snap_phrase::{
+    Below, Phrase, Row, const_node, function_node, let_node, with_constant, with_name,
+    with_pattern, with_value,
+};
 use spec_grammar::{Sign, Start};
 use std::alloc::Global;
 

@@ -1,17 +1,13 @@
 //! The loops that begin with `for`.
 
 ghost use Rattle.snap_parse.specs.Nests.{Nests};
-ghost use Rattle.snap_parse.specs.Reads.{Reads};
+ghost use Rattle.snap_cursor.specs.Reads.{Reads};
 ghost use Rattle.spec_grammar.specs.Read.{phrase};
 ghost use Rattle.spec_grammar.specs.ReadStatements as spec;
 
-use crate::cursor::Cursor;
-use crate::fault::ReadFault;
 use crate::grammar::Grammar;
-use crate::head::{OfHead, of_head};
-use crate::phrase::{Below, Phrase};
-use crate::row::Optional;
-use crate::statement_node::{for_let_node, for_node, for_of_node};
+use snap_cursor::{Cursor, OfHead, ReadFault, of_head};
+use snap_phrase::{Below, Optional, Phrase, for_let_node, for_node, for_of_node};
 use spec_grammar::{Sign, Start};
 use std::alloc::Global;
 

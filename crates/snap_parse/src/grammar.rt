@@ -2,12 +2,11 @@
 //! proved by itself.
 
 ghost use Rattle.snap_parse.specs.Nests.{Nests};
-ghost use Rattle.snap_parse.specs.Reads.{Reads};
+ghost use Rattle.snap_cursor.specs.Reads.{Reads};
 ghost use Rattle.spec_grammar.specs.Read.{phrase};
 
-use crate::cursor::Cursor;
-use crate::fault::ReadFault;
-use crate::phrase::Phrase;
+use snap_cursor::{Cursor, ReadFault};
+use snap_phrase::Phrase;
 use spec_grammar::Start;
 use std::alloc::Global;
 

@@ -4,15 +4,13 @@
 ghost use Rattle.std.specs.Prelude.{◌≡◌, ◌<◌};
 ghost use Rattle.snap_parse.specs.Groups.{closing, finished};
 ghost use Rattle.snap_parse.specs.Nests.{Nests};
-ghost use Rattle.snap_parse.specs.Reads.{Reads};
+ghost use Rattle.snap_cursor.specs.Reads.{Reads};
 ghost use Rattle.spec_grammar.specs.Read.{phrase};
 ghost use Rattle.spec_grammar.specs.ReadExpressions as spec;
 
-use crate::cursor::Cursor;
-use crate::fault::ReadFault;
 use crate::grammar::Grammar;
-use crate::head::{arrow_head, parens};
-use crate::phrase::Phrase;
+use snap_cursor::{Cursor, ReadFault, arrow_head, parens};
+use snap_phrase::Phrase;
 use spec_grammar::{Sign, Start};
 use std::alloc::Global;
 

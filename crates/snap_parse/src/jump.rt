@@ -1,19 +1,14 @@
 //! Jumps, each behind its first token, which stands at a place.
 
 ghost use Rattle.snap_parse.specs.Nests.{Nests};
-ghost use Rattle.snap_parse.specs.Reads.{Reads};
+ghost use Rattle.snap_cursor.specs.Reads.{Reads};
 ghost use Rattle.spec_grammar.specs.Read.{phrase};
 ghost use Rattle.spec_grammar.specs.ReadStatements as spec;
 
-use crate::cursor::Cursor;
-use crate::fault::ReadFault;
 use crate::grammar::Grammar;
-use crate::node::leaf;
-use crate::part::{is_over, semicolon};
-use crate::phrase::{Below, Phrase};
-use crate::row::Optional;
-use crate::statement_node::{return_node, throw_node};
 use snap_ast::Form;
+use snap_cursor::{Cursor, ReadFault, is_over, semicolon};
+use snap_phrase::{Below, Optional, Phrase, leaf, return_node, throw_node};
 use spec_grammar::Start;
 use std::alloc::Global;
 

@@ -2,18 +2,14 @@
 //! count of the tokens bounds the turns.
 
 ghost use Rattle.snap_parse.specs.Nests.{Nests};
-ghost use Rattle.snap_parse.specs.Reads.{Reads};
+ghost use Rattle.snap_cursor.specs.Reads.{Reads};
 ghost use Rattle.spec_grammar.specs.Read.{phrase};
 ghost use Rattle.spec_grammar.specs.ReadLists as spec;
 
-use crate::cursor::Cursor;
-use crate::fault::ReadFault;
 use crate::grammar::Grammar;
-use crate::names::parameters;
-use crate::phrase::{Below, Phrase};
-use crate::row::Row;
-use crate::statement_node::block_node;
 use snap_ast::{Items, Named};
+use snap_cursor::{Cursor, ReadFault, parameters};
+use snap_phrase::{Below, Phrase, Row, block_node};
 use spec_grammar::{Sign, Start};
 use std::alloc::Global;
 

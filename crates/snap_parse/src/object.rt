@@ -1,19 +1,14 @@
 //! Object literals.
 
 ghost use Rattle.snap_parse.specs.Nests.{Nests};
-ghost use Rattle.snap_parse.specs.Reads.{Reads};
+ghost use Rattle.snap_cursor.specs.Reads.{Reads};
 ghost use Rattle.spec_grammar.specs.Read.{phrase};
 ghost use Rattle.spec_grammar.specs.ReadExpressions as spec;
 
-use crate::cursor::Cursor;
-use crate::fault::ReadFault;
 use crate::grammar::Grammar;
-use crate::node::object_node;
-use crate::part::{key_at, named_at};
-use crate::phrase::{Below, Phrase};
-use crate::property::{with_computed, with_property, with_shorthand};
-use crate::row::Row;
 use snap_ast::Property;
+use snap_cursor::{Cursor, ReadFault, key_at, named_at};
+use snap_phrase::{Below, Phrase, Row, object_node, with_computed, with_property, with_shorthand};
 use spec_grammar::{Sign, Start};
 use std::alloc::Global;
 

@@ -2,7 +2,7 @@
 
 ghost use Rattle.std.specs.Prelude.{◌≡◌};
 ghost use Rattle.snap_parse.specs.Nests.{Nests};
-ghost use Rattle.snap_parse.specs.Reads.{Reads};
+ghost use Rattle.snap_cursor.specs.Reads.{Reads};
 ghost use Rattle.spec_grammar.specs.Nodes as node;
 ghost use Rattle.spec_grammar.specs.Outcome.{and_then, pure, skip};
 ghost use Rattle.spec_grammar.specs.Parts.{named_at};
@@ -10,14 +10,10 @@ ghost use Rattle.spec_grammar.specs.Read.{phrase};
 ghost use Rattle.spec_grammar.specs.ReadExpressions as spec;
 ghost use Rattle.spec_grammar.specs.Sign.{sign_at, start_at, text_at};
 
-use crate::cursor::Cursor;
-use crate::fault::ReadFault;
 use crate::grammar::Grammar;
-use crate::node::{array_node, function_value, leaf, name_node};
-use crate::part::named_at;
-use crate::phrase::{Below, Phrase};
-use crate::row::Row;
 use snap_ast::Form;
+use snap_cursor::{Cursor, ReadFault, named_at};
+use snap_phrase::{Below, Phrase, Row, array_node, function_value, leaf, name_node};
 use spec_grammar::{Sign, Start};
 use std::alloc::Global;
 

@@ -1,14 +1,12 @@
 //! Phrases of so many levels, and scripts.
 
 ghost use Rattle.std.specs.Prelude.{◌≡◌};
-ghost use Rattle.snap_parse.specs.Reads.{Reads};
+ghost use Rattle.snap_cursor.specs.Reads.{Reads};
 ghost use Rattle.spec_grammar.specs.Read.{phrase, script};
 
-use crate::cursor::Cursor;
-use crate::fault::ReadFault;
 use crate::grammar::Grammar;
-use crate::phrase::{Below, Phrase};
-use crate::row::Row;
+use snap_cursor::{Cursor, ReadFault};
+use snap_phrase::{Below, Phrase, Row};
 use spec_grammar::Start;
 use std::alloc::Global;
 

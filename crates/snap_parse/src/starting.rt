@@ -1,13 +1,12 @@
 //! The phrase of a kind.
 
 ghost use Rattle.snap_parse.specs.Nests.{Nests};
-ghost use Rattle.snap_parse.specs.Reads.{Reads};
+ghost use Rattle.snap_cursor.specs.Reads.{Reads};
 ghost use Rattle.spec_grammar.specs.Read.{phrase, phrase_by};
 
-use crate::cursor::Cursor;
-use crate::fault::ReadFault;
 use crate::grammar::Grammar;
-use crate::phrase::Phrase;
+use snap_cursor::{Cursor, ReadFault};
+use snap_phrase::Phrase;
 use spec_grammar::Start;
 use std::alloc::Global;
 

@@ -1,18 +1,14 @@
 //! All statements.
 
 ghost use Rattle.snap_parse.specs.Nests.{Nests};
-ghost use Rattle.snap_parse.specs.Reads.{Reads};
+ghost use Rattle.snap_cursor.specs.Reads.{Reads};
 ghost use Rattle.spec_grammar.specs.Read.{phrase};
 ghost use Rattle.spec_grammar.specs.ReadStatements as spec;
 
-use crate::cursor::Cursor;
-use crate::fault::ReadFault;
 use crate::grammar::Grammar;
-use crate::node::leaf;
-use crate::part::semicolon;
-use crate::phrase::Phrase;
-use crate::statement_node::expression_node;
 use snap_ast::Form;
+use snap_cursor::{Cursor, ReadFault, semicolon};
+use snap_phrase::{Phrase, expression_node, leaf};
 use spec_grammar::{Sign, Start};
 use std::alloc::Global;
 

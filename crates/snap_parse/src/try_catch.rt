@@ -1,17 +1,13 @@
 //! `try` and what handles it, behind its first token, which stands at a place.
 
 ghost use Rattle.snap_parse.specs.Nests.{Nests};
-ghost use Rattle.snap_parse.specs.Reads.{Reads};
+ghost use Rattle.snap_cursor.specs.Reads.{Reads};
 ghost use Rattle.spec_grammar.specs.Read.{phrase};
 ghost use Rattle.spec_grammar.specs.ReadStatements as spec;
 
-use crate::cursor::Cursor;
-use crate::fault::ReadFault;
 use crate::grammar::Grammar;
-use crate::part::name;
-use crate::phrase::{Below, Phrase};
-use crate::row::Optional;
-use crate::statement_node::{try_catch_name_node, try_catch_node, try_finally_node};
+use snap_cursor::{Cursor, ReadFault, name};
+use snap_phrase::{Below, Optional, Phrase, try_catch_name_node, try_catch_node, try_finally_node};
 use spec_grammar::{Sign, Start};
 use std::alloc::Global;
 

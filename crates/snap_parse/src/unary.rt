@@ -2,20 +2,16 @@
 
 ghost use Rattle.std.specs.Prelude.{true};
 ghost use Rattle.snap_parse.specs.Nests.{Nests};
-ghost use Rattle.snap_parse.specs.Reads.{Reads};
+ghost use Rattle.snap_cursor.specs.Reads.{Reads};
 ghost use Rattle.spec_grammar.specs.Operators.{BeforeTarget, BeforeUnary};
 ghost use Rattle.spec_grammar.specs.Outcome.{and_then};
 ghost use Rattle.spec_grammar.specs.Read.{phrase};
 ghost use Rattle.spec_grammar.specs.ReadExpressions as spec;
 
-use crate::cursor::Cursor;
-use crate::fault::ReadFault;
 use crate::grammar::Grammar;
-use crate::node::{postfix_node, unary_node, update_name, update_node};
-use crate::operator::{Lead, lead_of};
-use crate::part::{is_lone_name, named_at, postfix_at};
-use crate::phrase::Phrase;
 use snap_ast::{UnaryOperator, UpdateOperator};
+use snap_cursor::{Cursor, Lead, ReadFault, is_lone_name, lead_of, named_at, postfix_at};
+use snap_phrase::{Phrase, postfix_node, unary_node, update_name, update_node};
 use spec_grammar::Start;
 use std::alloc::Global;
 

@@ -14,11 +14,9 @@ use Rattle.snap_scope.specs.declared.names.Name.{Name}
 use Rattle.spec_scopes.proofs.Firsts.{NoneBefore, first_is, none_more}
 use Rattle.spec_scopes.specs.Names.{Declared}
 use Rattle.spec_scopes.specs.Scopes.{Slot, slot_of}
-use Rattle.spec_scopes.specs.Slots.{at_slot, place_in}
 use Rattle.spec_scopes.specs.Told.{first_repeat, only_if, repeat_at}
 use Rattle.spec_scopes.specs.declared.fault.ScopeFault.{ScopeFault}
 use Rattle.spec_scopes.specs.declared.fault.ScopeFault.TheVariants.{Duplicate, BadTarget, StrayJump, NoMemory}
-use Rattle.spec_scopes.specs.declared.place.SlotPlace.{SlotPlace}
 
 abbrev same_name : List ℕ → Slot → Bool
 same_name name slot = text_eq name slot.name
@@ -75,11 +73,3 @@ refused_as names i declared slots NoMemory e before apart h = tt
 -- what is refused at a place is the first name that repeats
 pub refused : (names : List Name) (i : ℕ) (name : Name) (slots : List Slot) (fault : ScopeFault) → i < length names → name ≡ get_or names i name → slots ≡ map slot_of (take i (all_declared names)) → AreApart (all_declared names) i → IsDeclared slots (declared_of name) fault → IsTold (first_repeat (all_declared names)) fault
 refused names i name slots fault below e before apart h = refused_as (all_declared names) i (declared_of name) slots fault (at_place names i name below e) before apart h
-
--- a name that is found has a place
-pub placed : (slots : List Slot) (name : List ℕ) (place : SlotPlace) → Some place ≡ place_in slots name → (n : ℕ) × (position (same_name name) slots ≡ Some n)
-placed slots name place e = of (position (same_name name) slots) refl e
-  where
-    of : (found : Option ℕ) → position (same_name name) slots ≡ found → Some place ≡ option_map (at_slot slots) found → (n : ℕ) × (position (same_name name) slots ≡ Some n)
-    of None is e = absurd cc
-    of (Some n) is e = (n, is)

@@ -1,5 +1,5 @@
 -- Declared names, as the code has them.
-use Rattle.std.specs.Prelude.{◌≡◌, ℕ, List, map, position, Some}
+use Rattle.std.specs.Prelude.{◌≡◌, ℕ, Bool, true, false, List, [], ◌∷◌, ◌++◌, Option, map, position, None, Some}
 use Rattle.std.specs.Str.{bytes_eq as text_eq}
 use Rattle.snap_scope.specs.declared.names.Name.{Name}
 use Rattle.spec_scopes.specs.declared.fault.ScopeFault.{ScopeFault}
@@ -12,6 +12,16 @@ declared_of name = record { named = name.named.now; is_constant = name.is_consta
 
 abbrev pub all_declared : List Name → List Declared
 all_declared names = map declared_of names
+
+-- a name is added behind the slots, or has one of them already
+abbrev pub Adds : List ℕ → Bool → List Slot → Bool → List Slot → Type 0
+Adds name is_constant old true new = (position (λ slot. text_eq name slot.name) old ≡ None) × (new ≡ old ++ record { name = name; is_constant = is_constant } ∷ [])
+Adds name is_constant old false new = (n : ℕ) × (position (λ slot. text_eq name slot.name) old ≡ Some n)
+
+-- slots that may be there
+abbrev pub slots_in : Option (List Slot) → List Slot
+slots_in None = []
+slots_in (Some slots) = slots
 
 -- a slot has the name already
 abbrev pub IsDeclared : List Slot → Declared → ScopeFault → Type 0

@@ -9,6 +9,7 @@ ghost use Rattle.spec_scopes.specs.Told.{first_repeat};
 
 use crate::names::Name;
 use crate::slots::Slots;
+use snap_text::NoMemory;
 use spec_scopes::ScopeFault;
 use std::alloc::Global;
 
@@ -17,13 +18,15 @@ fn declare(alloc: Global, name: Name<'_>, slots: &mut Slots) -> Result<(), Scope
     ensures apart { OnOk result (position (λ slot. text_eq name.entry.named.now.name slot.name) slots.old ≡ None) }
     ensures err { IfErr result (IsDeclared slots.old (declared_of name.entry)) }
 {
-    let bytes = name.named.name.as_slice();
-    match slots.find(bytes) {
-        Some(_) => Err(ScopeFault::Duplicate(name.named.at)),
-        None => match slots.add(alloc, bytes, name.is_constant) {
-            Ok(()) => Ok(()),
-            Err(_) => Err(ScopeFault::NoMemory),
-        },
+    match slots.add(alloc, name.named.name.as_slice(), name.is_constant) {
+        Ok(is_new) => {
+            if is_new {
+                Ok(())
+            } else {
+                Err(ScopeFault::Duplicate(name.named.at))
+            }
+        }
+        Err(NoMemory) => Err(ScopeFault::NoMemory),
     }
 }
 
@@ -33,7 +36,10 @@ pub(crate) fn slots_of(alloc: Global, names: &[Name<'_>]) -> Result<Slots, Scope
     ensures apart { OnOk result (first_repeat (all_declared names.now) ≡ None) }
     ensures err { IfErr result (IsTold (first_repeat (all_declared names.now))) }
 {
-    let mut slots = Slots::new(alloc);
+    let mut slots = match Slots::with_room(alloc, names.len()) {
+        Ok(slots) => slots,
+        Err(_) => return Err(ScopeFault::NoMemory),
+    };
     for name in names {
         match declare(alloc, *name, &mut slots) {
             Ok(()) => {}

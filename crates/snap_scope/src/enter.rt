@@ -5,6 +5,7 @@ ghost use Rattle.snap_ast.specs.Words.{Each};
 ghost use Rattle.snap_graph.specs.declared.kind.ScopeKind.{ScopeKind};
 ghost use Rattle.snap_scope.specs.Chains.{chain_in};
 ghost use Rattle.snap_scope.specs.Faults.{IsTold};
+ghost use Rattle.snap_scope.specs.Names.{all_declared, slots_in};
 ghost use Rattle.snap_scope.specs.Visit.{child_context, Enters};
 ghost use Rattle.spec_scopes.specs.Round.{IsAmong};
 ghost use Rattle.spec_scopes.specs.Scopes.{names_apart, own_names, slot_of};
@@ -13,7 +14,7 @@ ghost use Rattle.spec_scopes.specs.Told.{first_repeat};
 use crate::chains::Chains;
 use crate::context::{Context, child_context};
 use crate::declare::slots_of;
-use crate::names::{put_apart, put_own};
+use crate::names::{Name, put_apart, put_own};
 use crate::slots::Slots;
 use snap_ast::{Form, TreeNode};
 use snap_graph::ScopeKind;
@@ -21,46 +22,77 @@ use snap_text::NoMemory;
 use spec_scopes::ScopeFault;
 use std::alloc::Global;
 
+// The slots of names, of which no two may be the same, or nothing where there are no names.
+fn some_slots(alloc: Global, names: &[Name<'_>]) -> Result<Option<Slots>, ScopeFault>
+    ensures slots { IfOk result (λ slots. slots_in slots ≡ map slot_of (all_declared names.now)) }
+    ensures apart { OnOk result (first_repeat (all_declared names.now) ≡ None) }
+    ensures err { IfErr result (IsTold (first_repeat (all_declared names.now))) }
+{
+    match names {
+        [] => Ok(None),
+        [_, ..] => match slots_of(alloc, names) {
+            Ok(slots) => Ok(Some(slots)),
+            Err(fault) => Err(fault),
+        },
+    }
+}
+
 // The slots of the names of which no two may be the same.
-fn apart_slots(alloc: Global, nodes: &[TreeNode], form: &Form) -> Result<Slots, ScopeFault>
-    ensures slots { IfOk result (λ slots. slots ≡ map slot_of (names_apart nodes.now form.now)) }
+fn apart_slots<'t>(
+    alloc: Global,
+    nodes: &'t [TreeNode],
+    form: &'t Form,
+    names: &mut Vec<Name<'t>>,
+) -> Result<Option<Slots>, ScopeFault>
+    ensures slots { IfOk result (λ slots. slots_in slots ≡ map slot_of (names_apart nodes.now form.now)) }
     ensures apart { OnOk result (first_repeat (names_apart nodes.now form.now) ≡ None) }
     ensures err { IfErr result (IsTold (first_repeat (names_apart nodes.now form.now))) }
 {
-    let mut names = Vec::new(alloc);
-    match put_apart(nodes, form, &mut names) {
-        Ok(()) => slots_of(alloc, &names),
+    names.clear();
+    match put_apart(nodes, form, names) {
+        Ok(()) => some_slots(alloc, names),
         Err(NoMemory) => Err(ScopeFault::NoMemory),
     }
 }
 
 // The slots of the one name of a catch, which can't repeat.
-fn catch_slots(alloc: Global, nodes: &[TreeNode], form: &Form) -> Result<Slots, NoMemory>
+fn catch_slots<'t>(
+    alloc: Global,
+    nodes: &'t [TreeNode],
+    form: &'t Form,
+    names: &mut Vec<Name<'t>>,
+) -> Result<Slots, NoMemory>
     ensures { IfOk result (λ slots. slots ≡ map slot_of (own_names nodes.now form.now).names) }
 {
-    let mut names = Vec::new(alloc);
-    put_own(nodes, form, &mut names)?;
-    match slots_of(alloc, &names) {
+    names.clear();
+    put_own(nodes, form, names)?;
+    match slots_of(alloc, names) {
         Ok(slots) => Ok(slots),
         Err(_) => Err(NoMemory),
     }
 }
 
-/// The slots of the scope that a node makes, where its names are apart.
-pub(crate) fn own_slots(alloc: Global, nodes: &[TreeNode], form: &Form) -> Result<Slots, ScopeFault>
-    ensures slots { IfOk result (λ slots. slots ≡ map slot_of (own_names nodes.now form.now).names) }
+/// The slots of the scope that a node makes, where its names are apart, or nothing where it has no names. They
+/// are listed in the list that is lent.
+pub(crate) fn own_slots<'t>(
+    alloc: Global,
+    nodes: &'t [TreeNode],
+    form: &'t Form,
+    names: &mut Vec<Name<'t>>,
+) -> Result<Option<Slots>, ScopeFault>
+    ensures slots { IfOk result (λ slots. slots_in slots ≡ map slot_of (own_names nodes.now form.now).names) }
     ensures apart { OnOk result (first_repeat (names_apart nodes.now form.now) ≡ None) }
     ensures err { IfErr result (IsTold (first_repeat (names_apart nodes.now form.now))) }
 {
     match form {
-        Form::TryCatchName { .. } => match apart_slots(alloc, nodes, form) {
-            Ok(_) => match catch_slots(alloc, nodes, form) {
-                Ok(slots) => Ok(slots),
+        Form::TryCatchName { .. } => match apart_slots(alloc, nodes, form, names) {
+            Ok(_) => match catch_slots(alloc, nodes, form, names) {
+                Ok(slots) => Ok(Some(slots)),
                 Err(NoMemory) => Err(ScopeFault::NoMemory),
             },
             Err(fault) => Err(fault),
         },
-        _ => apart_slots(alloc, nodes, form),
+        _ => apart_slots(alloc, nodes, form, names),
     }
 }
 
@@ -69,13 +101,16 @@ pub(crate) fn enter(
     alloc: Global,
     chain: usize,
     kind: ScopeKind,
-    slots: Slots,
+    slots: Option<Slots>,
     chains: &mut Chains,
 ) -> Result<Option<usize>, NoMemory>
     requires within { chain < length chains.old.chains }
     requires few { length (chain_in chains.old chain) < 2 ^ 32 }
-    ensures { IfOk result (λ own. Enters chain kind slots own chains.old chains.new) }
+    ensures { IfOk result (λ own. Enters chain kind (slots_in slots) own chains.old chains.new) }
 {
+    let Some(slots) = slots else {
+        return Ok(None);
+    };
     if slots.len() == 0 {
         return Ok(None);
     }

@@ -68,13 +68,14 @@ impl Level {
         ensures needs { IfOk result (λ level. level.needs.items ≡ record { kind = kind; slots = length slots } ∷ self.now.needs.items) }
         ensures scopes { IfOk result (λ level. level.scopes.items ≡ number ∷ self.now.scopes.items) }
     {
-        let mut needs = Vec::new(alloc);
+        let length = self.scopes.len() + 1;
+        let mut needs = Vec::with_capacity(alloc, length)?;
         needs.push(ScopeNeed {
             kind,
             slots: slots.len(),
         })?;
         needs.extend_from_slice(&self.needs)?;
-        let mut scopes = Vec::new(alloc);
+        let mut scopes = Vec::with_capacity(alloc, length)?;
         scopes.push(number)?;
         scopes.extend_from_slice(&self.scopes)?;
         Ok(Level {

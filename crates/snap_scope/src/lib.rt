@@ -14,8 +14,6 @@ mod names;
 mod resolving;
 mod scopes;
 mod slots;
-#[cfg(test)]
-mod tests;
 mod trees;
 mod visiting;
 

@@ -37,7 +37,7 @@ fn script_slots(alloc: Global, tree: &Tree) -> Result<Slots, ScopeFault>
 }
 
 // What is known before any node is visited.
-fn start(alloc: Global, count: usize, slots: Slots) -> Result<Pass, NoMemory>
+fn start<'t>(alloc: Global, count: usize, slots: Slots) -> Result<Pass<'t>, NoMemory>
     ensures { IfOk result (IsStart count slots) }
 {
     let chains = Chains::script(alloc, slots)?;
@@ -50,11 +50,13 @@ fn start(alloc: Global, count: usize, slots: Slots) -> Result<Pass, NoMemory>
     Ok(Pass {
         chains,
         contexts,
-        entries: Vec::new(alloc),
+        entries: Vec::with_capacity(alloc, count)?,
+        children: Vec::new(alloc),
+        names: Vec::new(alloc),
     })
 }
 
-fn visit_all(alloc: Global, tree: &Tree, pass: &mut Pass) -> Result<(), ScopeFault>
+fn visit_all<'t>(alloc: Global, tree: &'t Tree, pass: &mut Pass<'t>) -> Result<(), ScopeFault>
     requires lawful { Lawful tree.now }
     requires start { Visited tree.now pass.old.chains pass.old.contexts.items pass.old.entries.items 0 }
     ensures ok { OnOk result (Visited tree.now pass.new.chains pass.new.contexts.items pass.new.entries.items (length tree.now.nodes)) }

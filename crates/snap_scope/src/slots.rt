@@ -1,9 +1,8 @@
 //! The names of a scope with their slots.
 
-ghost use Rattle.std.specs.Prelude.{◌≡◌, ◌∷◌, [], ◌++◌, ◌<◌, ℕ, length, position, None, OnOk, IfOk, IfErr};
-ghost use Rattle.std.specs.Option.{option_map};
-ghost use Rattle.std.specs.Str.{bytes_eq as text_eq};
-ghost use Rattle.spec_scopes.specs.Slots.{at_slot, place_in};
+ghost use Rattle.std.specs.Prelude.{◌≡◌, [], length, IfOk};
+ghost use Rattle.snap_scope.specs.Names.{Adds};
+ghost use Rattle.spec_scopes.specs.Slots.{place_in};
 
 use indexmap::IndexMap;
 use snap_text::NoMemory;
@@ -30,13 +29,12 @@ impl Model for Slots {
 }
 
 impl Slots {
-    /// No names.
-    pub fn new(alloc: Global) -> Slots
-        ensures { result ≡ [] }
+    /// No names, with room for so many.
+    pub fn with_room(alloc: Global, count: usize) -> Result<Slots, NoMemory>
+        ensures { IfOk result (λ slots. slots ≡ []) }
     {
-        Slots {
-            names: IndexMap::new(alloc),
-        }
+        let names = IndexMap::with_capacity(alloc, count)?;
+        Ok(Slots { names })
     }
 
     /// How many names there are.
@@ -60,16 +58,17 @@ impl Slots {
         }
     }
 
-    /// Adds a name that is not there. Where 2^32 - 1 names are there, the answer is want of memory.
-    pub fn add(&mut self, alloc: Global, name: &[u8], is_constant: bool) -> Result<(), NoMemory>
-        requires { position (λ slot. text_eq name.now slot.name) self.old ≡ None }
-        ensures { OnOk result (self.new ≡ self.old ++ record { name = name.now; is_constant = is_constant } ∷ []) }
+    /// Adds a name, and tells whether it was not there. Where 2^32 - 1 names are there, the answer is want of
+    /// memory.
+    pub fn add(&mut self, alloc: Global, name: &[u8], is_constant: bool) -> Result<bool, NoMemory>
+        ensures { IfOk result (λ is_new. Adds name.now is_constant self.old is_new self.new) }
     {
-        if self.names.len() >= u32::MAX as usize {
+        let count = self.names.len();
+        if count >= u32::MAX as usize {
             return Err(NoMemory);
         }
         let key = Vec::from_slice(alloc, name)?;
-        self.names.insert(key, is_constant)?;
-        Ok(())
+        let (slot, _) = self.names.insert_full(key, is_constant)?;
+        Ok(slot == count)
     }
 }

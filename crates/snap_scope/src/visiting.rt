@@ -5,6 +5,7 @@ ghost use Rattle.snap_ast.specs.Lawful.{Lawful};
 ghost use Rattle.snap_ast.specs.Words.{Each};
 ghost use Rattle.snap_scope.specs.Chains.{chain_in};
 ghost use Rattle.snap_scope.specs.Faults.{IsTold, IsToldAt};
+ghost use Rattle.snap_scope.specs.Names.{slots_in};
 ghost use Rattle.snap_scope.specs.Visit.{child_context, GoesIn, IsCleanAt, Visited};
 ghost use Rattle.snap_scope.specs.declared.context.Context.{Context};
 ghost use Rattle.spec_scopes.specs.Round.{IsAmong, numbers};
@@ -16,7 +17,7 @@ use crate::checks::{check_target, is_stray};
 use crate::children::put_children;
 use crate::context::{Context, NodeEntry};
 use crate::enter::{enter, own_slots, spread};
-use crate::names::kind_of;
+use crate::names::{Name, kind_of};
 use crate::slots::Slots;
 use snap_ast::{Form, Tree, TreeNode};
 use snap_text::NoMemory;
@@ -25,18 +26,28 @@ use std::alloc::Global;
 
 /// What is known once some nodes are visited.
 #[derive(Drop)]
-pub(crate) struct Pass {
+pub(crate) struct Pass<'t> {
     /// The scopes that they make, and that of the script.
     pub chains: Chains,
     /// What their children have from them, by number.
     pub contexts: Vec<Context>,
     /// Their own scopes, by number.
     pub entries: Vec<NodeEntry>,
+    /// The children of the node that is visited.
+    pub children: Vec<u32>,
+    /// The names that it declares.
+    pub names: Vec<Name<'t>>,
 }
 
-// Refuses a node with its early error, or gives the slots of its own scope.
-fn check(alloc: Global, tree: &Tree, node: &TreeNode, context: Context) -> Result<Slots, ScopeFault>
-    ensures slots { IfOk result (λ slots. slots ≡ map slot_of (own_names tree.now.nodes node.now.form).names) }
+// Refuses a node with its early error, or gives the slots of its own scope, where it has names.
+fn check<'t>(
+    alloc: Global,
+    tree: &'t Tree,
+    node: &'t TreeNode,
+    context: Context,
+    names: &mut Vec<Name<'t>>,
+) -> Result<Option<Slots>, ScopeFault>
+    ensures slots { IfOk result (λ slots. slots_in slots ≡ map slot_of (own_names tree.now.nodes node.now.form).names) }
     ensures clean { OnOk result (IsCleanAt tree.now node.now context) }
     ensures err { IfErr result (IsToldAt tree.now node.now context) }
 {
@@ -45,18 +56,18 @@ fn check(alloc: Global, tree: &Tree, node: &TreeNode, context: Context) -> Resul
             if is_stray(&node.form, context) {
                 return Err(ScopeFault::StrayJump(node.at));
             }
-            own_slots(alloc, tree.nodes.as_slice(), &node.form)
+            own_slots(alloc, tree.nodes.as_slice(), &node.form, names)
         }
         Err(fault) => Err(fault),
     }
 }
 
-// Gives the children of a node what they have from it.
+// Gives the children of a node what they have from it. They are listed in the list that is lent.
 fn spread_all(
-    alloc: Global,
     form: &Form,
     context: Context,
     own: Option<usize>,
+    children: &mut Vec<u32>,
     contexts: &mut Vec<Context>,
 ) -> Result<(), NoMemory>
     requires { Each (λ child. child < length contexts.old.items) (numbers form.now) }
@@ -64,9 +75,9 @@ fn spread_all(
     ensures children { OnOk result ((child : ℕ) → IsAmong (numbers form.now) child → slice_get contexts.new.items child ≡ Some (child_context form.now context own child)) }
     ensures others { OnOk result ((other : ℕ) → (IsAmong (numbers form.now) other → ⊥) → slice_get contexts.new.items other ≡ slice_get contexts.old.items other) }
 {
-    let mut children = Vec::new(alloc);
-    put_children(form, &mut children)?;
-    spread(form, context, own, &children, contexts);
+    children.clear();
+    put_children(form, children)?;
+    spread(form, context, own, children, contexts);
     Ok(())
 }
 
@@ -75,13 +86,13 @@ fn go_in(
     alloc: Global,
     node: &TreeNode,
     context: Context,
-    slots: Slots,
-    pass: &mut Pass,
+    slots: Option<Slots>,
+    pass: &mut Pass<'_>,
 ) -> Result<(), NoMemory>
     requires within { context.chain < length pass.old.chains.chains }
     requires few { length (chain_in pass.old.chains context.chain) < 2 ^ 32 }
     requires children { Each (λ child. child < length pass.old.contexts.items) (numbers node.now.form) }
-    ensures { OnOk result (GoesIn node.now.form context slots pass.old.chains pass.old.contexts.items pass.old.entries.items pass.new.chains pass.new.contexts.items pass.new.entries.items) }
+    ensures { OnOk result (GoesIn node.now.form context (slots_in slots) pass.old.chains pass.old.contexts.items pass.old.entries.items pass.new.chains pass.new.contexts.items pass.new.entries.items) }
 {
     let own = enter(
         alloc,
@@ -90,7 +101,13 @@ fn go_in(
         slots,
         &mut pass.chains,
     )?;
-    spread_all(alloc, &node.form, context, own, &mut pass.contexts)?;
+    spread_all(
+        &node.form,
+        context,
+        own,
+        &mut pass.children,
+        &mut pass.contexts,
+    )?;
     pass.entries.push(NodeEntry {
         chain: context.chain,
         own,
@@ -99,11 +116,11 @@ fn go_in(
 }
 
 /// Visits the next node.
-pub(crate) fn visit(
+pub(crate) fn visit<'t>(
     alloc: Global,
-    tree: &Tree,
+    tree: &'t Tree,
     number: usize,
-    pass: &mut Pass,
+    pass: &mut Pass<'t>,
 ) -> Result<(), ScopeFault>
     requires lawful { Lawful tree.now }
     requires below { number < length tree.now.nodes }
@@ -113,7 +130,7 @@ pub(crate) fn visit(
 {
     let node = &tree.nodes.as_slice()[number];
     let context = pass.contexts[number];
-    match check(alloc, tree, node, context) {
+    match check(alloc, tree, node, context, &mut pass.names) {
         Ok(slots) => match go_in(alloc, node, context, slots, pass) {
             Ok(()) => Ok(()),
             Err(NoMemory) => Err(ScopeFault::NoMemory),

@@ -19,6 +19,3 @@ pub use laws::calls_are_operations;
 pub use plain_node::PlainValue;
 pub use plain_store::{NoRoom, PlainStore};
 pub use store::Store;
-
-#[cfg(test)]
-mod tests;

@@ -2,7 +2,7 @@ use Rattle.std.proofs.Common.{rules, arith}
 use Rattle.std.proofs.lemmas.Grind.{common_steps}
 use Rattle.spec_grammar.specs.Read.{script, script_from}
 use Rattle.snap_parse.proofs.Script.{script-end, script-more, script-stop}
-use Rattle.snap_parse.proofs.Turns.{no_more, one_more}
+use Rattle.snap_cursor.proofs.Turns.{no_more, one_more}
 use Rattle.snap_parse.proofs.reader.script.Goals as goal
 
 pub loop-turn-init : goal.loop-turn-init

@@ -11,12 +11,12 @@ returns-clause-apart c =
     let names = all_declared c.args.names.now in
     none_is (repeat_at names) names (λ place name less at. c.loop-name.invariant.apart place name (omega (arith, length-map c.args.names.now declared_of)) at)
 
-pub returns-in-Err-clause-err : goal.returns-in-Err-clause-err
-returns-in-Err-clause-err c =
-    refused c.args.names.now c.loop-name.name-index c.name-item.result c.loop-name.slots c.in-Err.fault (omega arith) c.name-item.is c.loop-name.invariant.slots c.loop-name.invariant.apart c.in-Err.ensures.err
+pub returns-in-Err-declare-clause-err : goal.returns-in-Err-declare-clause-err
+returns-in-Err-declare-clause-err c =
+    refused c.args.names.now c.loop-name.name-index c.name-item.result c.loop-name.slots c.in-Err-declare.fault (omega arith) c.name-item.is c.loop-name.invariant.slots c.loop-name.invariant.apart c.in-Err-declare.ensures.err
 
 pub loop-name-preserved : goal.loop-name-preserved
 loop-name-preserved c = record {
-  slots = slots_more c.args.names.now c.loop-name.name-index c.name-item.result c.loop-name.slots c.declare.new.slots (omega arith) c.name-item.is c.loop-name.invariant.slots c.in-Ok.ensures.ok;
-  apart = names_more c.args.names.now c.loop-name.name-index c.name-item.result c.loop-name.slots (omega arith) c.name-item.is c.loop-name.invariant.slots c.loop-name.invariant.apart c.in-Ok.ensures.apart;
+  slots = slots_more c.args.names.now c.loop-name.name-index c.name-item.result c.loop-name.slots c.declare.new.slots (omega arith) c.name-item.is c.loop-name.invariant.slots c.in-Ok-declare.ensures.ok;
+  apart = names_more c.args.names.now c.loop-name.name-index c.name-item.result c.loop-name.slots (omega arith) c.name-item.is c.loop-name.invariant.slots c.loop-name.invariant.apart c.in-Ok-declare.ensures.apart;
 }

@@ -10,5 +10,5 @@ use Rattle.snap_scope.proofs.enter.apart_slots.Goals as goal
 pub returns-in-Ok-clause-apart : goal.returns-in-Ok-clause-apart
 returns-in-Ok-clause-apart c =
     let apart : List Declared = names_apart c.args.nodes.now c.args.form.now in
-    let names : all_declared c.deref.result.now ≡ apart = ap all_declared c.deref.ensures.value ∙ c.in-Ok.ensures ∙ ap (λ (xs : List Name). all_declared xs ++ apart) c.new-names.ensures.items in
-    subst (λ (list : List Declared). OnOk c.slots_of.result (first_repeat list ≡ None)) names c.slots_of.ensures.apart
+    let names : all_declared c.deref.result.now ≡ apart = ap all_declared c.deref.ensures.value ∙ c.in-Ok.ensures ∙ ap (λ (xs : List Name). all_declared xs ++ apart) c.clear.ensures.items in
+    subst (λ (list : List Declared). OnOk c.some_slots.result (first_repeat list ≡ None)) names c.some_slots.ensures.apart

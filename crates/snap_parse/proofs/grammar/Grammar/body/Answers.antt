@@ -3,7 +3,7 @@ use Rattle.std.proofs.lemmas.Grind.{common_steps}
 use Rattle.spec_grammar.specs.Outcome.{expect}
 use Rattle.spec_grammar.specs.Read.{phrase}
 use Rattle.spec_grammar.specs.ReadLists.{body, body_from}
-use Rattle.snap_parse.proofs.Turns.{one_more, no_more}
+use Rattle.snap_cursor.proofs.Turns.{one_more, no_more}
 use Rattle.snap_parse.proofs.grammar.Grammar.body.Goals as goal
 
 pub loop-turn-init : goal.loop-turn-init

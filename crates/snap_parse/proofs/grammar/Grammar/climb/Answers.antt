@@ -3,7 +3,7 @@ use Rattle.std.proofs.lemmas.Grind.{common_steps}
 use Rattle.spec_grammar.specs.Outcome.{Refusal}
 use Rattle.spec_grammar.specs.Read.{phrase}
 use Rattle.spec_grammar.specs.ReadExpressions.{climb}
-use Rattle.snap_parse.specs.Reads.{cause_of}
+use Rattle.snap_cursor.specs.Reads.{cause_of}
 use Rattle.snap_parse.proofs.Climb.{climb-more, climb-refused}
 use Rattle.snap_parse.proofs.grammar.Grammar.climb.Goals as goal
 

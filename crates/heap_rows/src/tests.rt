@@ -1,0 +1,6 @@
+//! Heaps, operators, stores and property access.
+
+mod access;
+mod nodes;
+mod operators;
+mod stores;

@@ -1,0 +1,276 @@
+//! Stores, called through the trait's bound.
+
+ghost use Rattle.std.specs.Prelude.{◌≡◌, ◌≤◌, ◌<◌, ℕ, IfOk, length};
+ghost use Rattle.snap_graph.specs.declared.kind.Kind.TheVariants.{Native};
+ghost use Rattle.snap_graph.specs.Intrinsics.{IsNative};
+
+mod logged;
+mod plain;
+mod wide;
+
+use snap_graph::{Kind, Value};
+use snap_store::{Store, StoreFault};
+use snap_text::Units;
+use std::alloc::Global;
+use std::test::Fail;
+
+/// Makes a node with no prototype.
+fn made<S: Store>(store: &mut S, kind: Kind) -> Result<u32, Fail>
+    requires { (number : ℕ) → kind ≡ Native number → IsNative number }
+    ensures node { IfOk result (λ node. node < length (S.nodes store.new)) }
+    ensures grows { length (S.nodes store.old) ≤ length (S.nodes store.new) }
+{
+    let null = Value::Null;
+    let held = store.hold(&null)?;
+    Ok(store.make(kind, &held)?)
+}
+
+/// Writes a property of a node that is neither frozen nor an array. Of any other it says that it does not.
+fn put<S: Store>(
+    alloc: Global,
+    store: &mut S,
+    node: u32,
+    key: &[u16],
+    number: u8,
+) -> Result<bool, Fail>
+    requires { node < length (S.nodes store.old) }
+    ensures { length (S.nodes store.new) ≡ length (S.nodes store.old) }
+{
+    if store.is_frozen(node) || store.kind(node) == Kind::Array {
+        return Ok(false);
+    }
+    let text = Units::of(alloc, key)?;
+    let held = store.hold(&Value::Int(i64::from(number)))?;
+    let key = store.key(&text)?;
+    store.put_own(node, key, &held)?;
+    Ok(true)
+}
+
+/// Why no property is written of a node that is neither frozen nor an array.
+fn put_fault<S: Store>(
+    alloc: Global,
+    store: &mut S,
+    node: u32,
+    key: &[u16],
+) -> Result<Option<StoreFault>, Fail>
+    requires { node < length (S.nodes store.old) }
+    ensures { length (S.nodes store.new) ≡ length (S.nodes store.old) }
+{
+    if store.is_frozen(node) || store.kind(node) == Kind::Array {
+        return Ok(None);
+    }
+    let text = Units::of(alloc, key)?;
+    let held = store.hold(&Value::Null)?;
+    let key = store.key(&text)?;
+    match store.put_own(node, key, &held) {
+        Ok(()) => Ok(None),
+        Err(fault) => Ok(Some(fault)),
+    }
+}
+
+/// What a node holds under a key.
+fn read<S: Store>(
+    alloc: Global,
+    store: &mut S,
+    node: u32,
+    key: &[u16],
+) -> Result<Option<Value>, Fail>
+    requires { node < length (S.nodes store.old) }
+    ensures { length (S.nodes store.new) ≡ length (S.nodes store.old) }
+{
+    let text = Units::of(alloc, key)?;
+    let key = store.key(&text)?;
+    match store.own(node, key) {
+        Some(held) => Ok(Some(store.value(&held)?)),
+        None => Ok(None),
+    }
+}
+
+/// Removes a property of a node that is not frozen, and says whether there was one.
+fn removed<S: Store>(alloc: Global, store: &mut S, node: u32, key: &[u16]) -> Result<bool, Fail>
+    requires { node < length (S.nodes store.old) }
+    ensures { length (S.nodes store.new) ≡ length (S.nodes store.old) }
+{
+    if store.is_frozen(node) {
+        return Ok(false);
+    }
+    let text = Units::of(alloc, key)?;
+    let key = store.key(&text)?;
+    Ok(store.remove_own(node, key)?)
+}
+
+/// Puts a number behind the elements of an array that is not frozen. Of any other node it says that it does not.
+fn pushed<S: Store>(store: &mut S, node: u32, number: u8) -> Result<bool, Fail>
+    requires { node < length (S.nodes store.old) }
+    ensures { length (S.nodes store.new) ≡ length (S.nodes store.old) }
+{
+    if store.is_frozen(node) || store.kind(node) != Kind::Array {
+        return Ok(false);
+    }
+    let held = store.hold(&Value::Int(i64::from(number)))?;
+    store.push_element(node, &held)?;
+    Ok(true)
+}
+
+/// Puts a number behind the elements of an array so many times, and says whether each time it was done.
+fn filled<S: Store>(store: &mut S, node: u32, count: u32) -> Result<bool, Fail>
+    requires { node < length (S.nodes store.old) }
+    ensures { length (S.nodes store.new) ≡ length (S.nodes store.old) }
+{
+    for _turn in 0..count {
+        if !pushed(store, node, 0)? {
+            return Ok(false);
+        }
+    }
+    Ok(true)
+}
+
+/// Why no number is put behind the elements of an array that is not frozen.
+fn push_fault<S: Store>(store: &mut S, node: u32) -> Result<Option<StoreFault>, Fail>
+    requires { node < length (S.nodes store.old) }
+{
+    if store.is_frozen(node) || store.kind(node) != Kind::Array {
+        return Ok(None);
+    }
+    let held = store.hold(&Value::Null)?;
+    match store.push_element(node, &held) {
+        Ok(()) => Ok(None),
+        Err(fault) => Ok(Some(fault)),
+    }
+}
+
+/// Writes an element of an array that is not frozen.
+fn written<S: Store>(store: &mut S, node: u32, i: u32, number: u8) -> Result<bool, Fail>
+    requires { node < length (S.nodes store.old) }
+    ensures { length (S.nodes store.new) ≡ length (S.nodes store.old) }
+{
+    if store.is_frozen(node) || store.kind(node) != Kind::Array || i >= store.count(node) {
+        return Ok(false);
+    }
+    let held = store.hold(&Value::Int(i64::from(number)))?;
+    store.set_element(node, i, &held);
+    Ok(true)
+}
+
+/// Takes the last element of an array that is not frozen.
+fn popped<S: Store>(store: &mut S, node: u32) -> Result<Option<Value>, Fail>
+    requires { node < length (S.nodes store.old) }
+    ensures { length (S.nodes store.new) ≡ length (S.nodes store.old) }
+{
+    if store.is_frozen(node) || store.kind(node) != Kind::Array {
+        return Ok(None);
+    }
+    match store.pop_element(node) {
+        Some(held) => Ok(Some(store.value(&held)?)),
+        None => Ok(None),
+    }
+}
+
+/// An element.
+fn element<S: Store>(store: &S, node: u32, i: u32) -> Result<Option<Value>, Fail>
+    requires { node < length (S.nodes store.now) }
+{
+    if i >= store.count(node) {
+        return Ok(None);
+    }
+    let held = store.element(node, i);
+    Ok(Some(store.value(&held)?))
+}
+
+/// The prototype of a node.
+fn prototype<S: Store>(store: &S, node: u32) -> Result<Value, Fail>
+    requires { node < length (S.nodes store.now) }
+{
+    let held = store.prototype(node);
+    Ok(store.value(&held)?)
+}
+
+/// Closes a node that is a resource.
+fn closed<S: Store>(store: &mut S, node: u32)
+    requires { node < length (S.nodes store.old) }
+    ensures { length (S.nodes store.new) ≡ length (S.nodes store.old) }
+{
+    if let Kind::Resource { .. } = store.kind(node) {
+        store.close(node);
+    }
+}
+
+/// Freezes a node.
+fn frozen<S: Store>(store: &mut S, node: u32)
+    requires { node < length (S.nodes store.old) }
+    ensures { length (S.nodes store.new) ≡ length (S.nodes store.old) }
+{
+    store.freeze(node);
+}
+
+/// The keys of a node, each with a comma behind it.
+fn keys<S: Store>(alloc: Global, store: &S, node: u32) -> Result<Vec<u16>, Fail>
+    requires { node < length (S.nodes store.now) }
+{
+    let mut text = Vec::new(alloc);
+    for key in store.own_keys(node)? {
+        text.extend_from_slice(key.units())?;
+        text.push(0x2C)?;
+    }
+    Ok(text)
+}
+
+/// The number that a value is, a node's too.
+fn number(value: Option<Value>) -> Option<i64> {
+    match value? {
+        Value::Int(number) => Some(number),
+        Value::Node(node) => Some(i64::from(node)),
+        _ => None,
+    }
+}
+
+/// One call on a node.
+#[derive(Clone, Copy)]
+enum Step<'a> {
+    Put(&'a [u16], u8),
+    Read(&'a [u16]),
+    Remove(&'a [u16]),
+    Push(u8),
+    Write(u32, u8),
+    Element(u32),
+    Pop,
+    Freeze,
+}
+
+/// What a step answers: the number that it reads, whether there was a property, or whether it was done.
+fn taken<S: Store>(alloc: Global, store: &mut S, node: u32, step: Step) -> Result<Option<i64>, Fail>
+    requires { node < length (S.nodes store.old) }
+    ensures { length (S.nodes store.new) ≡ length (S.nodes store.old) }
+{
+    match step {
+        Step::Put(key, value) => Ok(Some(i64::from(put(alloc, store, node, key, value)?))),
+        Step::Read(key) => Ok(number(read(alloc, store, node, key)?)),
+        Step::Remove(key) => Ok(Some(i64::from(removed(alloc, store, node, key)?))),
+        Step::Push(value) => Ok(Some(i64::from(pushed(store, node, value)?))),
+        Step::Write(i, value) => Ok(Some(i64::from(written(store, node, i, value)?))),
+        Step::Element(i) => Ok(number(element(store, node, i)?)),
+        Step::Pop => Ok(number(popped(store, node)?)),
+        Step::Freeze => {
+            frozen(store, node);
+            Ok(None)
+        }
+    }
+}
+
+/// The first step that answers otherwise than it should.
+fn played<S: Store>(
+    alloc: Global,
+    store: &mut S,
+    node: u32,
+    steps: &[(Step, Option<i64>)],
+) -> Result<Option<usize>, Fail>
+    requires { node < length (S.nodes store.old) }
+    ensures { length (S.nodes store.new) ≡ length (S.nodes store.old) }
+{
+    for (place, step) in steps.iter().enumerate() {
+        if taken(alloc, store, node, step.0)? != step.1 {
+            return Ok(Some(place));
+        }
+    }
+    Ok(None)
+}

@@ -1,5 +1,0 @@
-use Rattle.snap.proofs.OneCommand.{one_answer_lem}
-use Rattle.snap.proofs.serial.one_answer.Goals as goal
-
-pub returns : goal.returns
-returns c = one_answer_lem

@@ -1,6 +1,0 @@
-use Rattle.std.proofs.Common.{◌≡◌}
-use Rattle.snap_ctxfmt.proofs.Examples.{one_unit_strings}
-use Rattle.snap_ctxfmt.proofs.tests.all_strings.Given as goal
-
-abbrev pub invariant-loop-unit : goal.invariant-loop-unit
-invariant-loop-unit l = l.strings.items ≡ one_unit_strings 0 l.unit

@@ -1,0 +1,4 @@
+pub mod NamesFrom
+pub mod Opening
+pub mod Turns
+pub mod Past

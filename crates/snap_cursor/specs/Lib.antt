@@ -1,0 +1,4 @@
+pub mod Past
+pub mod Read
+pub mod Reads
+pub mod Steps

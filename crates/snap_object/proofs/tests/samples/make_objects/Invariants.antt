@@ -1,6 +1,0 @@
-use Rattle.std.proofs.Common.{◌<◌, length}
-use Rattle.snap_object.proofs.tests.samples.make_objects.Given as goal
-
--- the last number is that of a node
-abbrev pub invariant-loop-row : goal.invariant-loop-row
-invariant-loop-row g l = l.last < length (g.S.Store.nodes l.store)

@@ -1,7 +1,0 @@
-use Rattle.std.proofs.Common.{◌≡◌, ◌-◌}
-use Rattle.snap_parse.specs.Groups.{past}
-use Rattle.snap_parse.proofs.cursor.Cursor.skip_all.Given as goal
-
--- so many are still to be taken
-abbrev pub invariant-loop-taken : goal.invariant-loop-taken
-invariant-loop-taken l = past l.count l.fn.self ≡ past (l.count - l._taken) l.self

@@ -1,0 +1,7 @@
+use Rattle.std.proofs.Common.{◌≡◌}
+use Rattle.spec_grammar.specs.Numbered as spec
+use Rattle.snap_phrase.proofs.numbered.const_bindings.Given as goal
+
+-- those so far
+abbrev pub invariant-loop-binding : goal.invariant-loop-binding
+invariant-loop-binding l = l.done.items ≡ spec.const_bindings l.behind l.yielded

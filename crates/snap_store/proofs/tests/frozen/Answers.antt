@@ -1,6 +1,0 @@
-use Rattle.std.proofs.Common.{length, ap, ◌∙◌}
-use Rattle.spec_values.proofs.Changes.{length-changed}
-use Rattle.snap_store.proofs.tests.frozen.Goals as goal
-
-pub returns : goal.returns
-returns g c = ap length c.freeze.ensures.nodes ∙ length-changed _ _ _
