@@ -8,7 +8,6 @@ use sha2::{Digest, Sha256};
 use snap_commands::{Fault, Outcome, snap_serial};
 use snap_io::{HonestFiles, HonestSink, MemFiles, MemSink, NamedFile};
 use std::alloc::{AllocError, Global};
-use std::process::Abort;
 use std::test::Fail;
 
 mod builds;
@@ -64,77 +63,137 @@ fn words_of(alloc: Global, words: &[&str]) -> Result<Vec<String>, AllocError> {
     Ok(all)
 }
 
-fn one_file(alloc: Global, bytes: Vec<u8>) -> Result<Vec<NamedFile>, AllocError>
+/// Files of which one is held.
+fn one_file(alloc: Global, name: &str, bytes: &[u8]) -> Result<Vec<NamedFile>, AllocError>
     ensures { IfOk result (λ files. AreApart files.items) }
 {
-    let name = String::from_str(alloc, "A")?;
+    let name = String::from_str(alloc, name)?;
+    let bytes = Vec::from_slice(alloc, bytes)?;
     let mut files = Vec::new(alloc);
     files.push(NamedFile { name, bytes })?;
     Ok(files)
 }
 
-/// That `verify` prints this line of these bytes, and ends with this status.
-fn prints(
-    rt: &impl Abort,
+/// What these words come to, where nothing outside fails.
+fn outcome_of(
     alloc: Global,
-    bytes: Vec<u8>,
+    words: &[&str],
+    files: &mut HonestFiles,
+    out: &mut HonestSink,
+) -> Result<Outcome, AllocError> {
+    let words = words_of(alloc, words)?;
+    Ok(snap_serial(alloc, &words, files, out, 0))
+}
+
+/// What these words come to, where chosen calls fail.
+fn failing_outcome_of(
+    alloc: Global,
+    words: &[&str],
+    files: &mut MemFiles,
+    out: &mut MemSink,
+) -> Result<Outcome, AllocError> {
+    let words = words_of(alloc, words)?;
+    Ok(snap_serial(alloc, &words, files, out, 0))
+}
+
+/// Whether a call ended with this status, and with no fault exactly where that is 0.
+fn ended(outcome: &Outcome, status: u8) -> bool {
+    outcome.status == status && outcome.fault.is_none() == (status == 0)
+}
+
+/// Whether `verify` prints this line of these bytes, and ends with this status.
+fn is_verified(alloc: Global, bytes: &[u8], line: &str, status: u8) -> Result<bool, AllocError> {
+    let mut files = HonestFiles::new(alloc, one_file(alloc, "A", bytes)?);
+    let mut out = HonestSink::new(alloc);
+    let outcome = outcome_of(alloc, &["verify", "A"], &mut files, &mut out)?;
+    Ok(out.written() == line.as_bytes() && ended(&outcome, status))
+}
+
+/// Sections, what is printed of a blob with them, and the status.
+const WORKED: [(&[&[u8]], &str, u8); 3] = [
+    (
+        &[&EXTERNALS, &READ_ONLY, &STARTUP, &CONTEXT],
+        "ok 0 strings\n",
+        0,
+    ),
+    // A table of properties stands in the context.
+    (
+        &[
+            &EXTERNALS,
+            b"\x01\0\0\0\0\0\0\0\x01\0\0\0a",
+            &STARTUP,
+            b"\x01\x09\x10\0\x07\0\x21\x08\x30\x30\x30\x30\x31\0\0\x05\x02\x30\x30\x30\0\0\0\0",
+        ],
+        "not built\n",
+        11,
+    ),
+    // A second context.
+    (
+        &[&EXTERNALS, &READ_ONLY, &STARTUP, &CONTEXT, &CONTEXT],
+        "not built\n",
+        11,
+    ),
+];
+
+/// Whether a blob with these sections is told so.
+fn is_blob_verified(
+    alloc: Global,
+    sections: &[&[u8]],
     line: &str,
     status: u8,
-) -> Result<(), AllocError> {
-    let words = words_of(alloc, &["verify", "A"])?;
-    let mut files = HonestFiles::new(alloc, one_file(alloc, bytes)?);
-    let mut out = HonestSink::new(alloc);
-    let outcome = snap_serial(alloc, &words, &mut files, &mut out, 0);
-    assert_eq!(rt; out.written(), line.as_bytes(), "{line}");
-    assert_eq!(rt; outcome.status, status, "{line}");
-    assert_eq!(rt; outcome.fault == None, status == 0, "{line}");
-    Ok(())
+) -> Result<bool, AllocError> {
+    let blob = sealed(alloc, sections)?;
+    is_verified(alloc, &blob, line, status)
+}
+
+/// The first worked blob that is told otherwise.
+fn first_worked_otherwise(alloc: Global) -> Result<Option<usize>, AllocError> {
+    for (row, (sections, line, status)) in WORKED.iter().enumerate() {
+        if !is_blob_verified(alloc, sections, line, *status)? {
+            return Ok(Some(row));
+        }
+    }
+    Ok(None)
+}
+
+/// Whether the first blob is sealed as the format's description spells it.
+fn is_sealed_as_described(alloc: Global) -> Result<bool, AllocError> {
+    let blob = sealed(alloc, &[&EXTERNALS, &READ_ONLY, &STARTUP, &CONTEXT])?;
+    Ok(blob.as_slice() == BLOB_A.as_slice())
 }
 
 #[test]
 fn worked_blobs(rt: HostRuntime) -> Result<(), Fail> {
-    let alloc = rt.alloc();
-    let a: [&[u8]; 4] = [&EXTERNALS, &READ_ONLY, &STARTUP, &CONTEXT];
-    assert_eq!(rt; sealed(alloc, &a)?.as_slice(), BLOB_A.as_slice());
-    prints(&rt, alloc, BLOB_A.to_vec(alloc)?, "ok 0 strings\n", 0)?;
-    prints(
-        &rt,
-        alloc,
-        Vec::new(alloc),
-        "blob refused: TooShort at 0\n",
-        5,
-    )?;
-    // A table of properties stands in the context.
-    let table = b"\x01\x09\x10\0\x07\0\x21\x08\x30\x30\x30\x30\x31\0\0\x05\x02\x30\x30\x30\0\0\0\0";
-    let b: [&[u8]; 4] = [
-        &EXTERNALS,
-        b"\x01\0\0\0\0\0\0\0\x01\0\0\0a",
-        &STARTUP,
-        table,
-    ];
-    prints(&rt, alloc, sealed(alloc, &b)?, "not built\n", 11)?;
-    let second_context: [&[u8]; 5] = [&EXTERNALS, &READ_ONLY, &STARTUP, &CONTEXT, &CONTEXT];
-    prints(
-        &rt,
-        alloc,
-        sealed(alloc, &second_context)?,
-        "not built\n",
-        11,
-    )?;
+    assert!(rt; is_sealed_as_described(rt.alloc())?, "sealed");
+    assert_eq!(rt; first_worked_otherwise(rt.alloc())?, None);
+    let line = "blob refused: TooShort at 0\n";
+    assert!(rt; is_verified(rt.alloc(), &[], line, 5)?, "no bytes");
     Ok(())
+}
+
+/// Whether a front of the first blob is told as too short, or as of another length than it says.
+fn is_front_refused(alloc: Global, front: &[u8]) -> Result<bool, AllocError> {
+    let len = front.len();
+    if len >= 52 {
+        return is_verified(alloc, front, "blob refused: BadLength at 12\n", 5);
+    }
+    let line = format!(in alloc; "blob refused: TooShort at {len}\n")?;
+    is_verified(alloc, front, line.as_str(), 5)
+}
+
+/// The length of the first one that is not.
+fn first_front_accepted(alloc: Global) -> Result<Option<usize>, AllocError> {
+    for len in 0..BLOB_A.len() {
+        if !is_front_refused(alloc, &BLOB_A[..len])? {
+            return Ok(Some(len));
+        }
+    }
+    Ok(None)
 }
 
 #[test]
 fn prefixes(rt: HostRuntime) -> Result<(), Fail> {
-    let alloc = rt.alloc();
-    for n in 0..BLOB_A.len() {
-        let line = if n < 52 {
-            format!(in alloc; "blob refused: TooShort at {n}\n")?
-        } else {
-            format!(in alloc; "blob refused: BadLength at 12\n")?
-        };
-        prints(&rt, alloc, BLOB_A[..n].to_vec(alloc)?, line.as_str(), 5)?;
-    }
+    assert_eq!(rt; first_front_accepted(rt.alloc())?, None);
     Ok(())
 }
 
@@ -158,30 +217,41 @@ const CHANGED: [(usize, u8, &str, u8); 15] = [
     (88, 0, "not built\n", 11),
 ];
 
-#[test]
-fn changed_bytes(rt: HostRuntime) -> Result<(), Fail> {
-    let alloc = rt.alloc();
-    for (at, byte, line, status) in CHANGED {
-        let mut blob = BLOB_A;
-        if at < blob.len() {
-            blob[at] = byte;
-        }
-        if at >= 48 {
-            let digest = Sha256::digest(&blob[48..]);
-            blob[16..48].copy_from_slice(&digest);
-        }
-        prints(&rt, alloc, blob.to_vec(alloc)?, line, status)?;
+/// The first blob with this byte, sealed anew where the change is behind the digest.
+fn changed(at: usize, byte: u8) -> [u8; 100] {
+    let mut blob = BLOB_A;
+    if at < blob.len() {
+        blob[at] = byte;
     }
-    // The digest no longer fits what it is of.
+    if at >= 48 {
+        let digest = Sha256::digest(&blob[48..]);
+        blob[16..48].copy_from_slice(&digest);
+    }
+    blob
+}
+
+/// The first change of which something else is told.
+fn first_change_told_otherwise(alloc: Global) -> Result<Option<usize>, AllocError> {
+    for (row, (at, byte, line, status)) in CHANGED.iter().enumerate() {
+        if !is_verified(alloc, &changed(*at, *byte), line, *status)? {
+            return Ok(Some(row));
+        }
+    }
+    Ok(None)
+}
+
+/// The first blob with a digest that is not of what follows it.
+fn damaged() -> [u8; 100] {
     let mut blob = BLOB_A;
     blob[88] = 0;
-    prints(
-        &rt,
-        alloc,
-        blob.to_vec(alloc)?,
-        "blob refused: BadDigest at 16\n",
-        5,
-    )?;
+    blob
+}
+
+#[test]
+fn changed_bytes(rt: HostRuntime) -> Result<(), Fail> {
+    assert_eq!(rt; first_change_told_otherwise(rt.alloc())?, None);
+    let line = "blob refused: BadDigest at 16\n";
+    assert!(rt; is_verified(rt.alloc(), &damaged(), line, 5)?);
     Ok(())
 }
 
@@ -255,23 +325,38 @@ const SECTIONS: [(&[u8], &str, u8); 18] = [
     ),
 ];
 
+/// The first of them of which something else is printed.
+fn first_section_told_otherwise(alloc: Global) -> Result<Option<usize>, AllocError> {
+    for (row, (section, line, status)) in SECTIONS.iter().enumerate() {
+        let sections: [&[u8]; 4] = [&EXTERNALS, section, &STARTUP, &CONTEXT];
+        if !is_blob_verified(alloc, &sections, line, *status)? {
+            return Ok(Some(row));
+        }
+    }
+    Ok(None)
+}
+
 #[test]
 fn read_only_sections(rt: HostRuntime) -> Result<(), Fail> {
-    let alloc = rt.alloc();
-    for (section, line, status) in SECTIONS {
-        let sections: [&[u8]; 4] = [&EXTERNALS, section, &STARTUP, &CONTEXT];
-        prints(&rt, alloc, sealed(alloc, &sections)?, line, status)?;
-    }
+    assert_eq!(rt; first_section_told_otherwise(rt.alloc())?, None);
     Ok(())
+}
+
+/// Whether so many zeros are told so.
+fn are_zeros_refused(alloc: Global, count: usize, line: &str) -> Result<bool, AllocError> {
+    let bytes = vec![in alloc; 0u8; count]?;
+    is_verified(alloc, &bytes, line, 5)
 }
 
 #[test]
 fn one_byte_too_long(rt: HostRuntime) -> Result<(), Fail> {
-    let alloc = rt.alloc();
-    let bytes = vec![in alloc; 0u8; 67_108_865]?;
-    prints(&rt, alloc, bytes, "blob refused: TooLong at 67108864\n", 5)?;
-    let bytes = vec![in alloc; 0u8; 67_108_864]?;
-    prints(&rt, alloc, bytes, "blob refused: BadMagic at 0\n", 5)?;
+    let line = "blob refused: TooLong at 67108864\n";
+    assert!(rt;
+        are_zeros_refused(rt.alloc(), 67_108_865, line)?,
+        "too long"
+    );
+    let line = "blob refused: BadMagic at 0\n";
+    assert!(rt; are_zeros_refused(rt.alloc(), 67_108_864, line)?, "longest");
     Ok(())
 }
 
@@ -291,23 +376,60 @@ const REFUSED_WORDS: [&[&str]; 13] = [
     &["build", "A\n"],
 ];
 
+/// Whether these words are told as such, and nothing is written.
+fn are_words_refused(alloc: Global, words: &[&str]) -> Result<bool, AllocError> {
+    let mut files = HonestFiles::new(alloc, one_file(alloc, "A", &BLOB_A)?);
+    let mut out = HonestSink::new(alloc);
+    let outcome = outcome_of(alloc, words, &mut files, &mut out)?;
+    Ok(
+        outcome.status == 2
+            && outcome.fault == Some(Fault::Words)
+            && out.written() == b"words refused\n".as_slice()
+            && files.held("snapshot.blob").is_none(),
+    )
+}
+
+/// The first words that are not.
+fn first_words_accepted(alloc: Global) -> Result<Option<usize>, AllocError> {
+    for (row, words) in REFUSED_WORDS.iter().enumerate() {
+        if !are_words_refused(alloc, words)? {
+            return Ok(Some(row));
+        }
+    }
+    Ok(None)
+}
+
 #[test]
 fn words(rt: HostRuntime) -> Result<(), Fail> {
-    let alloc = rt.alloc();
-    for words in REFUSED_WORDS {
-        let words = words_of(alloc, words)?;
-        let mut files = HonestFiles::new(alloc, one_file(alloc, BLOB_A.to_vec(alloc)?)?);
-        let mut out = HonestSink::new(alloc);
-        let outcome = snap_serial(alloc, &words, &mut files, &mut out, 0);
-        let refused = Outcome {
-            status: 2,
-            fault: Some(Fault::Words),
-        };
-        assert_eq!(rt; outcome, refused, "{words:?}");
-        assert_eq!(rt; out.written(), b"words refused\n".as_slice());
-        assert_eq!(rt; files.held("snapshot.blob"), None);
-    }
+    assert_eq!(rt; first_words_accepted(rt.alloc())?, None);
     Ok(())
+}
+
+/// A file of this name and these bytes, where these calls fail.
+fn failing_files(
+    alloc: Global,
+    calls: &[u32],
+    name: &str,
+    bytes: &[u8],
+) -> Result<MemFiles, AllocError> {
+    let calls = Vec::from_slice(alloc, calls)?;
+    let held = one_file(alloc, name, bytes)?;
+    Ok(MemFiles::new(alloc, held, calls))
+}
+
+/// Whether these words print this line and end with this status over these files, where these calls of
+/// the sink fail.
+fn is_failure_told(
+    alloc: Global,
+    words: &[&str],
+    files: &mut MemFiles,
+    puts: &[u32],
+    line: &str,
+    status: u8,
+) -> Result<bool, AllocError> {
+    let mut out = MemSink::new(alloc, Vec::from_slice(alloc, puts)?);
+    let outcome = failing_outcome_of(alloc, words, files, &mut out)?;
+    Ok(outcome.status == status && out.written() == line.as_bytes())
 }
 
 /// How an outside that fails is told: the failing calls of the files and of the sink, the name that
@@ -320,18 +442,20 @@ const FAILING: [(&[u32], &[u32], &str, &str, u8); 5] = [
     (&[0], &[0], "A", "", 7),
 ];
 
+/// The first of them that is told otherwise.
+fn first_failure_told_otherwise(alloc: Global) -> Result<Option<usize>, AllocError> {
+    for (row, (reads, puts, name, line, status)) in FAILING.iter().enumerate() {
+        let mut files = failing_files(alloc, reads, "A", &BLOB_A)?;
+        let told = is_failure_told(alloc, &["verify", name], &mut files, puts, line, *status)?;
+        if !told || files.held("A") != Some(BLOB_A.as_slice()) {
+            return Ok(Some(row));
+        }
+    }
+    Ok(None)
+}
+
 #[test]
 fn failing_calls(rt: HostRuntime) -> Result<(), Fail> {
-    let alloc = rt.alloc();
-    for (reads, puts, name, line, status) in FAILING {
-        let words = words_of(alloc, &["verify", name])?;
-        let held = one_file(alloc, BLOB_A.to_vec(alloc)?)?;
-        let mut files = MemFiles::new(alloc, held, reads.to_vec(alloc)?);
-        let mut out = MemSink::new(alloc, puts.to_vec(alloc)?);
-        let outcome = snap_serial(alloc, &words, &mut files, &mut out, 0);
-        assert_eq!(rt; outcome.status, status, "{line}");
-        assert_eq!(rt; out.written(), line.as_bytes(), "{line}");
-        assert_eq!(rt; files.held("A"), Some(BLOB_A.as_slice()));
-    }
+    assert_eq!(rt; first_failure_told_otherwise(rt.alloc())?, None);
     Ok(())
 }

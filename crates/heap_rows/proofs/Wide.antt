@@ -1,5 +1,5 @@
 -- A plain object of many properties is one node of a heap.
-use Rattle.std.proofs.Common.{◌≡◌, ◌≢◌, ℕ, zero, suc, ◌+◌, ◌*◌, ◌/◌, ◌%◌, ◌<◌, ◌≤◌, Bool, true, false, List, [], ◌∷◌, ◌++◌, length, slice_get, Some, refl, ap, sym, subst, ◌∙◌, arith, if◌then◌else◌}
+use Rattle.std.proofs.Common.{◌≡◌, ℕ, zero, suc, ◌+◌, ◌/◌, ◌%◌, ◌<◌, ◌≤◌, Bool, true, false, List, [], ◌∷◌, ◌++◌, length, slice_get, Some, refl, ap, subst, ◌∙◌, arith, if◌then◌else◌}
 use Rattle.std.specs.List.{AllByRecursion}
 use Rattle.std.specs.Str.{bytes_eq as text_eq}
 use Rattle.std.proofs.Math.Nat.{div-add-mod}
@@ -61,11 +61,11 @@ put_last key held (property ∷ rest) h =
     ∙ ap (λ (more : List Property). property ∷ more) (put_last key held rest h.1)
 
 -- one more of the properties that are made
-pub many_more : (n : ℕ) (before after : List Property) (key : List ℕ) → before ≡ many n → key ≡ key_of n → after ≡ before ++ record { key = key; value = value.Null } ∷ [] → after ≡ many (n + 1)
+pub many_more : (n : ℕ) (before after : List Property) (property : Property) → before ≡ many n → property ≡ property_of n → after ≡ before ++ property ∷ [] → after ≡ many (n + 1)
 unfolding many
-many_more n before after key is made e =
+many_more n before after property is made e =
     let next : suc n ≡ n + 1 = omega arith in
-    e ∙ ap (λ (properties : List Property). properties ++ record { key = key; value = value.Null } ∷ []) is ∙ ap (λ (k : List ℕ). many n ++ record { key = k; value = value.Null } ∷ []) made ∙ ap many next
+    e ∙ ap (λ (properties : List Property). properties ++ property ∷ []) is ∙ ap (λ (p : Property). many n ++ p ∷ []) made ∙ ap many next
 
 -- ---- nodes
 

@@ -2,5 +2,8 @@
 
 mod access;
 mod nodes;
+mod objects;
 mod operators;
+mod refused;
 mod stores;
+mod values;

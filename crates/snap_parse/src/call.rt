@@ -26,7 +26,43 @@ impl<F: Fn(Global, &mut Cursor<'_>, u32, Start) -> Result<Phrase, ReadFault>> Gr
         }
     }
 
-    /// A phrase with what stands behind it, which is something.
+    /// A phrase with a member of it.
+    fn member_tail(&self, cursor: &mut Cursor<'_>, left: Phrase) -> Result<Phrase, ReadFault>
+        requires { Nests self.now.room (F.pre self.now.phrase) (F.post self.now.phrase) }
+        ensures { Reads (spec.tail_step (phrase self.now.room) self.now.room (tail_in Tail.Dot) left cursor.old) result cursor.new }
+    {
+        self.fits(&left, cursor)?;
+        cursor.skip();
+        let text = word(self.alloc, cursor)?;
+        Ok(member_node(left, text)?)
+    }
+
+    /// A phrase with an index.
+    fn index_tail(&self, cursor: &mut Cursor<'_>, left: Phrase) -> Result<Phrase, ReadFault>
+        requires { Nests self.now.room (F.pre self.now.phrase) (F.post self.now.phrase) }
+        ensures { Reads (spec.tail_step (phrase self.now.room) self.now.room (tail_in Tail.Bracket) left cursor.old) result cursor.new }
+    {
+        self.fits(&left, cursor)?;
+        cursor.skip();
+        let key = self.below(cursor, Start::Expression)?;
+        cursor.expect(Sign::CloseSquare)?;
+        Ok(index_node(left, key)?)
+    }
+
+    /// A phrase with arguments.
+    fn call_tail(&self, cursor: &mut Cursor<'_>, left: Phrase) -> Result<Phrase, ReadFault>
+        requires { Nests self.now.room (F.pre self.now.phrase) (F.post self.now.phrase) }
+        ensures { Reads (spec.tail_step (phrase self.now.room) self.now.room (tail_in Tail.Arguments) left cursor.old) result cursor.new }
+    {
+        self.fits(&left, cursor)?;
+        cursor.skip();
+        let at = left.at();
+        let row = Row::on(self.alloc, left.under());
+        let found = self.list(cursor, Sign::CloseParen, row)?;
+        Ok(call_node(at, found)?)
+    }
+
+    /// A phrase with what stands behind it.
     fn tail_step(
         &self,
         cursor: &mut Cursor<'_>,
@@ -38,27 +74,9 @@ impl<F: Fn(Global, &mut Cursor<'_>, u32, Start) -> Result<Phrase, ReadFault>> Gr
     {
         match tail {
             Tail::NoTail => Ok(left),
-            Tail::Dot => {
-                self.fits(&left, cursor)?;
-                cursor.skip();
-                let text = word(self.alloc, cursor)?;
-                Ok(member_node(left, text)?)
-            }
-            Tail::Bracket => {
-                self.fits(&left, cursor)?;
-                cursor.skip();
-                let key = self.below(cursor, Start::Expression)?;
-                cursor.expect(Sign::CloseSquare)?;
-                Ok(index_node(left, key)?)
-            }
-            Tail::Arguments => {
-                self.fits(&left, cursor)?;
-                cursor.skip();
-                let at = left.at();
-                let row = Row::on(self.alloc, left.under());
-                let found = self.list(cursor, Sign::CloseParen, row)?;
-                Ok(call_node(at, found)?)
-            }
+            Tail::Dot => self.member_tail(cursor, left),
+            Tail::Bracket => self.index_tail(cursor, left),
+            Tail::Arguments => self.call_tail(cursor, left),
         }
     }
 

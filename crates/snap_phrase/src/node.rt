@@ -34,14 +34,12 @@ pub fn binary_node(
     ensures { IfOk result (λ phrase. phrase ≡ spec.binary_node operator left right) }
 {
     let at = left.at();
-    let below = left.under();
-    let number = below.number()?;
+    let (right, below) = left.under().next(right)?;
     let form = Form::Binary {
         operator,
         left: 0,
-        right: number,
+        right,
     };
-    let below = below.with(right)?;
     below.above(at, form)
 }
 
@@ -130,14 +128,12 @@ pub fn assign_node(
             value.under().above(at, form)
         }
         None => {
-            let below = target.under();
-            let number = below.number()?;
+            let (value, below) = target.under().next(value)?;
             let form = Form::Assign {
                 target: 0,
                 operator,
-                value: number,
+                value,
             };
-            let below = below.with(value)?;
             below.above(at, form)
         }
     }
@@ -148,16 +144,13 @@ pub fn conditional_node(test: Phrase, then: Phrase, otherwise: Phrase) -> Result
     ensures { IfOk result (λ phrase. phrase ≡ spec.conditional_node test then otherwise) }
 {
     let at = test.at();
-    let below = test.under();
-    let second = below.number()?;
-    let below = below.with(then)?;
-    let third = below.number()?;
+    let (then, below) = test.under().next(then)?;
+    let (otherwise, below) = below.next(otherwise)?;
     let form = Form::Conditional {
         test: 0,
-        then: second,
-        otherwise: third,
+        then,
+        otherwise,
     };
-    let below = below.with(otherwise)?;
     below.above(at, form)
 }
 
@@ -193,14 +186,8 @@ pub fn index_node(object: Phrase, key: Phrase) -> Result<Phrase, AllocError>
     ensures { IfOk result (λ phrase. phrase ≡ spec.index_node object key) }
 {
     let at = object.at();
-    let below = object.under();
-    let number = below.number()?;
-    let form = Form::Index {
-        object: 0,
-        key: number,
-    };
-    let below = below.with(key)?;
-    below.above(at, form)
+    let (key, below) = object.under().next(key)?;
+    below.above(at, Form::Index { object: 0, key })
 }
 
 /// A call, whose arguments stand behind what is called.

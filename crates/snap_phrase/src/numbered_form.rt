@@ -1,6 +1,7 @@
 //! The numbers of a table in each form.
 
-ghost use Rattle.std.specs.Prelude.{◌≡◌, ◌+◌, IfOk};
+ghost use Rattle.std.specs.Prelude.{◌≡◌, ◌+◌, false, IfOk};
+ghost use Rattle.snap_phrase.specs.Statements.{is_compound};
 ghost use Rattle.spec_grammar.specs.Numbered as spec;
 
 use crate::numbered::{child, const_bindings, let_bindings, numbers, object_properties, optional};
@@ -86,117 +87,12 @@ fn for_let_form(
     })
 }
 
-/// A form with the numbers of the table, in which the node behind its own has this number.
-pub fn numbered_form(alloc: Global, behind: u32, form: Form) -> Result<Form, AllocError>
+/// A form that is no statement with nodes below it, with the numbers of the table.
+fn numbered_expression(alloc: Global, behind: u32, form: Form) -> Result<Form, AllocError>
+    requires { is_compound form ≡ false }
     ensures { IfOk result (λ numbered. numbered ≡ spec.form behind form) }
 {
     match form {
-        Form::Let { bindings } => Ok(Form::Let {
-            bindings: let_bindings(alloc, behind, bindings)?,
-        }),
-        Form::Const { bindings } => Ok(Form::Const {
-            bindings: const_bindings(alloc, behind, bindings)?,
-        }),
-        Form::Function {
-            name,
-            parameters,
-            body,
-        } => Ok(Form::Function {
-            name,
-            parameters,
-            body: numbers(alloc, behind, body)?,
-        }),
-        Form::Block { body } => Ok(Form::Block {
-            body: numbers(alloc, behind, body)?,
-        }),
-        Form::Empty => Ok(Form::Empty),
-        Form::Expression { value } => Ok(Form::Expression {
-            value: child(behind, value)?,
-        }),
-        Form::If { test, then } => {
-            let (test, then) = two(behind, test, then)?;
-            Ok(Form::If { test, then })
-        }
-        Form::IfElse {
-            test,
-            then,
-            otherwise,
-        } => {
-            let (test, then, otherwise) = three(behind, test, then, otherwise)?;
-            Ok(Form::IfElse {
-                test,
-                then,
-                otherwise,
-            })
-        }
-        Form::While { test, body } => {
-            let (test, body) = two(behind, test, body)?;
-            Ok(Form::While { test, body })
-        }
-        Form::For {
-            start,
-            test,
-            update,
-            body,
-        } => for_form(behind, start, test, update, body),
-        Form::ForLet {
-            bindings,
-            test,
-            update,
-            body,
-        } => for_let_form(alloc, behind, bindings, test, update, body),
-        Form::ForOf {
-            is_constant,
-            name,
-            values,
-            body,
-        } => {
-            let (values, body) = two(behind, values, body)?;
-            Ok(Form::ForOf {
-                is_constant,
-                name,
-                values,
-                body,
-            })
-        }
-        Form::Break => Ok(Form::Break),
-        Form::Continue => Ok(Form::Continue),
-        Form::Return { value } => Ok(Form::Return {
-            value: optional(behind, value)?,
-        }),
-        Form::Throw { value } => Ok(Form::Throw {
-            value: child(behind, value)?,
-        }),
-        Form::TryCatch {
-            block,
-            handler,
-            finalizer,
-        } => {
-            let (block, handler, finalizer) = caught(behind, block, handler, finalizer)?;
-            Ok(Form::TryCatch {
-                block,
-                handler,
-                finalizer,
-            })
-        }
-        Form::TryCatchName {
-            block,
-            name,
-            handler,
-            finalizer,
-        } => {
-            let (block, handler, finalizer) = caught(behind, block, handler, finalizer)?;
-            Ok(Form::TryCatchName {
-                block,
-                name,
-                handler,
-                finalizer,
-            })
-        }
-        Form::TryFinally { block, finalizer } => {
-            let (block, finalizer) = two(behind, block, finalizer)?;
-            Ok(Form::TryFinally { block, finalizer })
-        }
         Form::ArrowValue { parameters, value } => Ok(Form::ArrowValue {
             parameters,
             value: child(behind, value)?,
@@ -254,15 +150,6 @@ pub fn numbered_form(alloc: Global, behind: u32, form: Form) -> Result<Form, All
             operator,
             operand: child(behind, operand)?,
         }),
-        Form::UpdateName {
-            operator,
-            is_prefix,
-            name,
-        } => Ok(Form::UpdateName {
-            operator,
-            is_prefix,
-            name,
-        }),
         Form::Update {
             operator,
             is_prefix,
@@ -288,12 +175,6 @@ pub fn numbered_form(alloc: Global, behind: u32, form: Form) -> Result<Form, All
             let (callee, arguments) = called(alloc, behind, callee, arguments)?;
             Ok(Form::New { callee, arguments })
         }
-        Form::Name { name } => Ok(Form::Name { name }),
-        Form::Number { value } => Ok(Form::Number { value }),
-        Form::Text { units } => Ok(Form::Text { units }),
-        Form::Bool { value } => Ok(Form::Bool { value }),
-        Form::Null => Ok(Form::Null),
-        Form::Undefined => Ok(Form::Undefined),
         Form::Array { elements } => Ok(Form::Array {
             elements: numbers(alloc, behind, elements)?,
         }),
@@ -304,5 +185,118 @@ pub fn numbered_form(alloc: Global, behind: u32, form: Form) -> Result<Form, All
             parameters,
             body: numbers(alloc, behind, body)?,
         }),
+        leaf => Ok(leaf),
+    }
+}
+
+/// A form with the numbers of the table, in which the node behind its own has this number.
+pub fn numbered_form(alloc: Global, behind: u32, form: Form) -> Result<Form, AllocError>
+    ensures { IfOk result (λ numbered. numbered ≡ spec.form behind form) }
+{
+    match form {
+        Form::Let { bindings } => Ok(Form::Let {
+            bindings: let_bindings(alloc, behind, bindings)?,
+        }),
+        Form::Const { bindings } => Ok(Form::Const {
+            bindings: const_bindings(alloc, behind, bindings)?,
+        }),
+        Form::Function {
+            name,
+            parameters,
+            body,
+        } => Ok(Form::Function {
+            name,
+            parameters,
+            body: numbers(alloc, behind, body)?,
+        }),
+        Form::Block { body } => Ok(Form::Block {
+            body: numbers(alloc, behind, body)?,
+        }),
+        Form::Expression { value } => Ok(Form::Expression {
+            value: child(behind, value)?,
+        }),
+        Form::If { test, then } => {
+            let (test, then) = two(behind, test, then)?;
+            Ok(Form::If { test, then })
+        }
+        Form::IfElse {
+            test,
+            then,
+            otherwise,
+        } => {
+            let (test, then, otherwise) = three(behind, test, then, otherwise)?;
+            Ok(Form::IfElse {
+                test,
+                then,
+                otherwise,
+            })
+        }
+        Form::While { test, body } => {
+            let (test, body) = two(behind, test, body)?;
+            Ok(Form::While { test, body })
+        }
+        Form::For {
+            start,
+            test,
+            update,
+            body,
+        } => for_form(behind, start, test, update, body),
+        Form::ForLet {
+            bindings,
+            test,
+            update,
+            body,
+        } => for_let_form(alloc, behind, bindings, test, update, body),
+        Form::ForOf {
+            is_constant,
+            name,
+            values,
+            body,
+        } => {
+            let (values, body) = two(behind, values, body)?;
+            Ok(Form::ForOf {
+                is_constant,
+                name,
+                values,
+                body,
+            })
+        }
+        Form::Return { value } => Ok(Form::Return {
+            value: optional(behind, value)?,
+        }),
+        Form::Throw { value } => Ok(Form::Throw {
+            value: child(behind, value)?,
+        }),
+        Form::TryCatch {
+            block,
+            handler,
+            finalizer,
+        } => {
+            let (block, handler, finalizer) = caught(behind, block, handler, finalizer)?;
+            Ok(Form::TryCatch {
+                block,
+                handler,
+                finalizer,
+            })
+        }
+        Form::TryCatchName {
+            block,
+            name,
+            handler,
+            finalizer,
+        } => {
+            let (block, handler, finalizer) = caught(behind, block, handler, finalizer)?;
+            Ok(Form::TryCatchName {
+                block,
+                name,
+                handler,
+                finalizer,
+            })
+        }
+        Form::TryFinally { block, finalizer } => {
+            let (block, finalizer) = two(behind, block, finalizer)?;
+            Ok(Form::TryFinally { block, finalizer })
+        }
+        expression => numbered_expression(alloc, behind, expression),
     }
 }

@@ -191,6 +191,15 @@ impl Below {
         })
     }
 
+    /// One phrase more, and its number.
+    pub fn next(self, phrase: Phrase) -> Result<(u32, Below), AllocError>
+        ensures { IfOk result (λ next. next ≡ (spec.number self, (self ▸ phrase))) }
+    {
+        let number = self.number()?;
+        let below = self.with(phrase)?;
+        Ok((number, below))
+    }
+
     /// Their nodes.
     pub fn into_nodes(self) -> Vec<TreeNode>
         ensures { result.items ≡ self.nodes }

@@ -124,10 +124,10 @@ impl Optional {
     pub fn present(below: Below, phrase: Phrase) -> Result<Optional, AllocError>
         ensures { IfOk result (λ optional. optional ≡ spec.present below phrase) }
     {
-        let number = below.number()?;
+        let (number, below) = below.next(phrase)?;
         Ok(Optional {
             number: Some(number),
-            below: below.with(phrase)?,
+            below,
         })
     }
 

@@ -65,14 +65,8 @@ pub fn expression_node(value: Phrase) -> Result<Phrase, AllocError>
 pub fn if_node(at: u32, test: Phrase, then: Phrase) -> Result<Phrase, AllocError>
     ensures { IfOk result (λ phrase. phrase ≡ spec.if_node at test then) }
 {
-    let below = test.under();
-    let number = below.number()?;
-    let form = Form::If {
-        test: 0,
-        then: number,
-    };
-    let below = below.with(then)?;
-    below.above(at, form)
+    let (then, below) = test.under().next(then)?;
+    below.above(at, Form::If { test: 0, then })
 }
 
 /// An `if` with an `else`.
@@ -84,16 +78,13 @@ pub fn if_else_node(
 ) -> Result<Phrase, AllocError>
     ensures { IfOk result (λ phrase. phrase ≡ spec.if_else_node at test then otherwise) }
 {
-    let below = test.under();
-    let second = below.number()?;
-    let below = below.with(then)?;
-    let third = below.number()?;
+    let (then, below) = test.under().next(then)?;
+    let (otherwise, below) = below.next(otherwise)?;
     let form = Form::IfElse {
         test: 0,
-        then: second,
-        otherwise: third,
+        then,
+        otherwise,
     };
-    let below = below.with(otherwise)?;
     below.above(at, form)
 }
 
@@ -101,14 +92,8 @@ pub fn if_else_node(
 pub fn while_node(at: u32, test: Phrase, body: Phrase) -> Result<Phrase, AllocError>
     ensures { IfOk result (λ phrase. phrase ≡ spec.while_node at test body) }
 {
-    let below = test.under();
-    let number = below.number()?;
-    let form = Form::While {
-        test: 0,
-        body: number,
-    };
-    let below = below.with(body)?;
-    below.above(at, form)
+    let (body, below) = test.under().next(body)?;
+    below.above(at, Form::While { test: 0, body })
 }
 
 /// A `for` that declares nothing, whose last part stands behind the two before it.
@@ -122,14 +107,13 @@ pub fn for_node(
     ensures { IfOk result (λ phrase. phrase ≡ above at (Form.For start test last.number (number last.below)) (last.below ▸ body)) }
 {
     let (update, below) = last.into_parts();
-    let number = below.number()?;
+    let (body, below) = below.next(body)?;
     let form = Form::For {
         start,
         test,
         update,
-        body: number,
+        body,
     };
-    let below = below.with(body)?;
     below.above(at, form)
 }
 
@@ -144,14 +128,13 @@ pub fn for_let_node(
     ensures { IfOk result (λ phrase. phrase ≡ above at (Form.ForLet bindings test last.number (number last.below)) (last.below ▸ body)) }
 {
     let (update, below) = last.into_parts();
-    let number = below.number()?;
+    let (body, below) = below.next(body)?;
     let form = Form::ForLet {
         bindings,
         test,
         update,
-        body: number,
+        body,
     };
-    let below = below.with(body)?;
     below.above(at, form)
 }
 
@@ -165,15 +148,13 @@ pub fn for_of_node(
 ) -> Result<Phrase, AllocError>
     ensures { IfOk result (λ phrase. phrase ≡ spec.for_of_node at is_constant name values body) }
 {
-    let below = values.under();
-    let number = below.number()?;
+    let (body, below) = values.under().next(body)?;
     let form = Form::ForOf {
         is_constant,
         name,
         values: 0,
-        body: number,
+        body,
     };
-    let below = below.with(body)?;
     below.above(at, form)
 }
 
@@ -228,12 +209,10 @@ pub fn try_catch_name_node(
 pub fn try_finally_node(at: u32, block: Phrase, finalizer: Phrase) -> Result<Phrase, AllocError>
     ensures { IfOk result (λ phrase. phrase ≡ spec.try_finally_node at block finalizer) }
 {
-    let below = block.under();
-    let number = below.number()?;
+    let (finalizer, below) = block.under().next(finalizer)?;
     let form = Form::TryFinally {
         block: 0,
-        finalizer: number,
+        finalizer,
     };
-    let below = below.with(finalizer)?;
     below.above(at, form)
 }

@@ -3,10 +3,10 @@
 ghost use Rattle.std.specs.Prelude.{◌≡◌, [], ◌∷◌, IfOk};
 
 use snap_blob::{
-    BLOB_LIMIT, Container, SealFault, ShapeStep, are_lawful, read_startup, seal, write_startup,
-    write_strings,
+    BLOB_LIMIT, Container, SealFault, ShapeStep, Startup, are_lawful, read_startup, seal,
+    write_startup, write_strings,
 };
-use snap_text::Units;
+use snap_text::{NoMemory, Units};
 use std::alloc::{AllocError, Global};
 use std::test::Fail;
 
@@ -46,19 +46,40 @@ fn owned(alloc: Global, sections: &[&[u8]]) -> Result<Vec<Vec<u8>>, AllocError> 
     Ok(all)
 }
 
+/// Whether the sections are sealed as the blob.
+fn is_sealed(alloc: Global) -> Result<bool, NoMemory> {
+    let sections = owned(alloc, &SECTIONS_A)?;
+    if sections.len() != 4 {
+        return Ok(false);
+    }
+    match seal(alloc, 1, sections.as_slice()) {
+        Ok(blob) => Ok(blob.as_slice() == BLOB_A.as_slice()),
+        Err(SealFault::NoMemory) => Err(NoMemory),
+        Err(SealFault::TooLong) => Ok(false),
+    }
+}
+
+/// The first section that a blob has otherwise.
+fn first_other_section(container: &Container) -> Option<usize> {
+    for (k, section) in SECTIONS_A.iter().enumerate() {
+        if k as u32 >= container.sections() || container.section(k as u32) != *section {
+            return Some(k);
+        }
+    }
+    None
+}
+
 #[test]
 fn sections_are_sealed(rt: HostRuntime) -> Result<(), Fail> {
-    let alloc = rt.alloc();
-    let sections = owned(alloc, &SECTIONS_A)?;
-    assert!(rt; sections.len() == 4);
-    let blob = seal(alloc, 1, sections.as_slice())?;
-    assert_eq!(rt; blob.as_slice(), BLOB_A.as_slice());
-    let container = Container::take(blob.as_slice())?;
+    assert!(rt; is_sealed(rt.alloc())?);
+    Ok(())
+}
+
+#[test]
+fn a_blob_is_taken(rt: HostRuntime) -> Result<(), Fail> {
+    let container = Container::take(&BLOB_A)?;
     assert_eq!(rt; container.sections(), 4);
-    for (k, section) in SECTIONS_A.iter().enumerate() {
-        assert!(rt; (k as u32) < container.sections());
-        assert_eq!(rt; container.section(k as u32), *section, "section {k}");
-    }
+    assert_eq!(rt; first_other_section(&container), None);
     Ok(())
 }
 
@@ -83,15 +104,12 @@ fn a_blob_has_a_limit(rt: HostRuntime) -> Result<(), Fail> {
     Ok(())
 }
 
-fn two_strings(alloc: Global) -> Result<Vec<Units>, Fail>
+fn two_strings(alloc: Global) -> Result<Vec<Units>, NoMemory>
     ensures { IfOk result (λ strings. strings.items ≡ (97 ∷ []) ∷ (98 ∷ []) ∷ []) }
 {
     let first = Units::of(alloc, &[97])?;
     let second = Units::of(alloc, &[98])?;
-    let mut strings = Vec::new(alloc);
-    strings.push(first)?;
-    strings.push(second)?;
-    Ok(strings)
+    Ok(Vec::from_array(alloc, [first, second])?)
 }
 
 #[test]
@@ -103,40 +121,76 @@ fn strings_are_written(rt: HostRuntime) -> Result<(), Fail> {
     Ok(())
 }
 
+/// Whether the section is written so.
+fn is_startup_written(alloc: Global) -> Result<bool, NoMemory> {
+    match write_startup(alloc, 0, b"let n=5;", &SHAPES) {
+        Ok(section) => Ok(section.as_slice() == STARTUP.as_slice()),
+        Err(_) => Err(NoMemory),
+    }
+}
+
+/// Whether this was read of the section.
+fn is_what_was_written(startup: &Startup) -> bool {
+    startup.seed == 0
+        && startup.script == b"let n=5;".as_slice()
+        && startup.shapes.as_slice() == SHAPES.as_slice()
+}
+
+/// Whether the section is read as what it was written of.
+fn is_startup_read(alloc: Global) -> Result<bool, NoMemory> {
+    match read_startup(alloc, &STARTUP) {
+        Ok(Some(startup)) => Ok(is_what_was_written(&startup)),
+        Ok(None) => Ok(false),
+        Err(_) => Err(NoMemory),
+    }
+}
+
 #[test]
 fn a_startup_section_is_read_again(rt: HostRuntime) -> Result<(), Fail> {
-    let alloc = rt.alloc();
-    let section = write_startup(alloc, 0, b"let n=5;", &SHAPES)?;
-    assert_eq!(rt; section.as_slice(), STARTUP.as_slice());
-    let read = read_startup(alloc, &STARTUP)?;
-    assert!(rt; read.is_some());
-    if let Some(startup) = read {
-        assert_eq!(rt; startup.seed, 0);
-        assert_eq!(rt; startup.script, b"let n=5;".as_slice());
-        assert_eq!(rt; startup.shapes.as_slice(), SHAPES.as_slice());
-    }
+    assert!(rt; is_startup_written(rt.alloc())?, "written");
+    assert!(rt; is_startup_read(rt.alloc())?, "read");
     Ok(())
+}
+
+/// Bytes that are no startup section.
+const NO_STARTUP: [&[u8]; 8] = [
+    b"",
+    b"\0\0\0\0\0\0\0",
+    // The second spelling of 0 functions, and of the number of shapes.
+    b"\0\0\0\0\0\0\0\0\x01\x01;\x80\0\0",
+    b"\0\0\0\0\0\0\0\0\x01\x01;\0\x81\0\0\0",
+    // A byte is left over, and one is missing.
+    b"\0\0\0\0\0\0\0\0\x01\x01;\0\0\0",
+    b"\0\0\0\0\0\0\0\0\x01\x01;\0\x01\0",
+    // Two scripts, and a function.
+    b"\0\0\0\0\0\0\0\0\x02\x01;\x01;\0\0",
+    b"\0\0\0\0\0\0\0\0\x01\x01;\x01\0\0\0",
+];
+
+/// Whether they are told as such.
+fn is_refused(alloc: Global, section: &[u8]) -> Result<bool, NoMemory> {
+    if section.len() >= 1000 {
+        return Ok(false);
+    }
+    match read_startup(alloc, section) {
+        Ok(startup) => Ok(startup.is_none()),
+        Err(_) => Err(NoMemory),
+    }
+}
+
+/// The first of them that are not.
+fn first_accepted(alloc: Global) -> Result<Option<usize>, NoMemory> {
+    for (row, section) in NO_STARTUP.iter().enumerate() {
+        if !is_refused(alloc, section)? {
+            return Ok(Some(row));
+        }
+    }
+    Ok(None)
 }
 
 #[test]
 fn other_startup_sections_are_refused(rt: HostRuntime) -> Result<(), Fail> {
-    let refused: [&[u8]; 8] = [
-        b"",
-        b"\0\0\0\0\0\0\0",
-        // The second spelling of 0 functions, and of the number of shapes.
-        b"\0\0\0\0\0\0\0\0\x01\x01;\x80\0\0",
-        b"\0\0\0\0\0\0\0\0\x01\x01;\0\x81\0\0\0",
-        // A byte is left over, and one is missing.
-        b"\0\0\0\0\0\0\0\0\x01\x01;\0\0\0",
-        b"\0\0\0\0\0\0\0\0\x01\x01;\0\x01\0",
-        // Two scripts, and a function.
-        b"\0\0\0\0\0\0\0\0\x02\x01;\x01;\0\0",
-        b"\0\0\0\0\0\0\0\0\x01\x01;\x01\0\0\0",
-    ];
-    for (k, section) in refused.iter().enumerate() {
-        assert!(rt; section.len() < 1000);
-        assert!(rt; read_startup(rt.alloc(), section)?.is_none(), "section {k}");
-    }
+    assert_eq!(rt; first_accepted(rt.alloc())?, None);
     Ok(())
 }
 
@@ -167,44 +221,92 @@ const JUDGED: [(&[(u32, u32)], u32, bool); 16] = [
     (&[(0, 0), (0, 1), (1, 2), (2, 2), (3, 1), (4, 1)], 3, false),
 ];
 
+fn shapes_of(alloc: Global, pairs: &[(u32, u32)]) -> Result<Vec<ShapeStep>, AllocError> {
+    let mut shapes = Vec::new(alloc);
+    for (parent, name) in pairs {
+        shapes.push(ShapeStep {
+            parent: *parent,
+            name: *name,
+        })?;
+    }
+    Ok(shapes)
+}
+
+/// Whether shapes are judged so.
+fn is_judged(
+    alloc: Global,
+    pairs: &[(u32, u32)],
+    strings: u32,
+    lawful: bool,
+) -> Result<bool, NoMemory> {
+    let shapes = shapes_of(alloc, pairs)?;
+    if shapes.len() >= 10 {
+        return Ok(false);
+    }
+    match are_lawful(alloc, &shapes, strings) {
+        Ok(judged) => Ok(judged == lawful),
+        Err(_) => Err(NoMemory),
+    }
+}
+
+/// The first shapes that are judged otherwise.
+fn first_misjudged(alloc: Global) -> Result<Option<usize>, NoMemory> {
+    for (row, (pairs, strings, lawful)) in JUDGED.iter().enumerate() {
+        if !is_judged(alloc, pairs, *strings, *lawful)? {
+            return Ok(Some(row));
+        }
+    }
+    Ok(None)
+}
+
 #[test]
 fn shapes_are_judged(rt: HostRuntime) -> Result<(), Fail> {
-    let alloc = rt.alloc();
-    for (row, (pairs, strings, expected)) in JUDGED.iter().enumerate() {
-        let mut shapes = Vec::new(alloc);
-        for (parent, name) in pairs.iter() {
-            shapes.push(ShapeStep {
-                parent: *parent,
-                name: *name,
-            })?;
-        }
-        assert!(rt; shapes.len() < 10);
-        let judged = are_lawful(alloc, shapes.as_slice(), *strings);
-        assert_eq!(rt; judged, Ok(*expected), "row {row}");
-    }
+    assert_eq!(rt; first_misjudged(rt.alloc())?, None);
     Ok(())
 }
 
 /// Many shapes as one chain, a star, a comb, two chains whose numbers take turns, and a deep tree of many
-/// branches: were each key sought by a walk up from its shape, this would not end in time.
+/// branches.
+fn many_shapes(alloc: Global, form: u32) -> Result<Vec<ShapeStep>, AllocError> {
+    let mut shapes = Vec::new(alloc);
+    for n in 0..300_000u32 {
+        let parent = match form {
+            0 => n,
+            1 => 0,
+            2 if n % 2 == 1 => n,
+            4 => n - (n.wrapping_mul(2_654_435_761) >> 29).min(n),
+            _ => n.max(1) - 1,
+        };
+        shapes.push(ShapeStep { parent, name: n })?;
+    }
+    Ok(shapes)
+}
+
+/// Whether they are found lawful.
+fn are_many_lawful(alloc: Global, form: u32) -> Result<bool, NoMemory> {
+    let shapes = many_shapes(alloc, form)?;
+    if shapes.len() != 300_000 {
+        return Ok(false);
+    }
+    match are_lawful(alloc, &shapes, 300_000) {
+        Ok(judged) => Ok(judged),
+        Err(_) => Err(NoMemory),
+    }
+}
+
+/// The first form of many shapes that is not.
+fn first_unlawful(alloc: Global) -> Result<Option<u32>, NoMemory> {
+    for form in 0..5 {
+        if !are_many_lawful(alloc, form)? {
+            return Ok(Some(form));
+        }
+    }
+    Ok(None)
+}
+
+// Were each key sought by a walk up from its shape, this would not end in time.
 #[test]
 fn many_shapes_are_judged(rt: HostRuntime) -> Result<(), Fail> {
-    let alloc = rt.alloc();
-    for form in 0..5 {
-        let mut shapes = Vec::new(alloc);
-        for n in 0..300_000u32 {
-            let parent = match form {
-                0 => n,
-                1 => 0,
-                2 if n % 2 == 1 => n,
-                4 => n - (n.wrapping_mul(2_654_435_761) >> 29).min(n),
-                _ => n.max(1) - 1,
-            };
-            shapes.push(ShapeStep { parent, name: n })?;
-        }
-        assert!(rt; shapes.len() == 300_000);
-        let judged = are_lawful(alloc, shapes.as_slice(), 300_000);
-        assert_eq!(rt; judged, Ok(true), "form {form}");
-    }
+    assert_eq!(rt; first_unlawful(rt.alloc())?, None);
     Ok(())
 }

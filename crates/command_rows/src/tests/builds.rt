@@ -1,14 +1,12 @@
 //! What `build` prints and writes over files in memory.
 
-use super::runs::script_file;
-use super::{number, sealed, words_of};
-use snap_commands::{Fault, SourceRefused, snap_serial};
-use snap_io::{Files, HonestFiles, HonestSink, MemFiles, MemSink};
+use super::{failing_files, is_failure_told, number, one_file, outcome_of, sealed, words_of};
+use snap_commands::{Fault, SourceRefused};
+use snap_io::{Files, HonestFiles, HonestSink, MemFiles};
 use snap_lex::LexFault;
 use snap_parse::SourceFault;
 use snap_scope::ScopeFault;
 use std::alloc::{AllocError, Global};
-use std::process::Abort;
 use std::test::Fail;
 
 const SOURCE: &str = "globalThis.foo = 'I am from the snapshot'; console.log(7);";
@@ -122,37 +120,58 @@ fn expected_blob(alloc: Global) -> Result<Vec<u8>, AllocError> {
     blob_of(alloc, &strings, SOURCE.as_bytes(), &KEYS, &[6, 2])
 }
 
-/// That a build of this source prints this and ends with this status. The blob that it wrote, if any.
-fn blob_built(
-    rt: &impl Abort,
+/// This source, and another file.
+fn source_files(alloc: Global, source: &[u8]) -> Result<HonestFiles, AllocError> {
+    let mut files = HonestFiles::new(alloc, one_file(alloc, "s.js", source)?);
+    match files.write("other", b"x") {
+        Ok(()) => Ok(files),
+        Err(_) => Err(AllocError),
+    }
+}
+
+/// Whether a build over these files prints this, ends with this status, and leaves both as they were.
+fn is_told(
     alloc: Global,
+    files: &mut HonestFiles,
     source: &[u8],
     line: &[u8],
     status: u8,
-) -> Result<Option<Vec<u8>>, Fail> {
-    let words = words_of(alloc, &["build", "s.js"])?;
-    let mut files = HonestFiles::new(alloc, script_file(alloc, "s.js", source)?);
-    files.write("other", b"x")?;
+) -> Result<bool, AllocError> {
     let mut out = HonestSink::new(alloc);
-    let outcome = snap_serial(alloc, &words, &mut files, &mut out, 0);
-    assert!(rt; out.written() == line);
-    assert_eq!(rt; outcome.status, status);
-    assert!(rt; files.held("s.js") == Some(source));
-    assert_eq!(rt; files.held("other"), Some(b"x".as_slice()));
-    match files.held("snapshot.blob") {
-        Some(blob) => Ok(Some(blob.to_vec(alloc)?)),
-        None => Ok(None),
-    }
+    let outcome = outcome_of(alloc, &["build", "s.js"], files, &mut out)?;
+    Ok(
+        out.written() == line
+            && outcome.status == status
+            && files.held("s.js") == Some(source)
+            && files.held("other") == Some(b"x".as_slice()),
+    )
+}
+
+/// Whether a build of this source is told so, and writes a blob exactly where the status is 0.
+fn is_built(alloc: Global, source: &[u8], line: &[u8], status: u8) -> Result<bool, AllocError> {
+    let mut files = source_files(alloc, source)?;
+    let told = is_told(alloc, &mut files, source, line, status)?;
+    Ok(told && files.held("snapshot.blob").is_some() == (status == 0))
+}
+
+/// Whether a build of this source prints this, and writes this blob.
+fn is_built_as(alloc: Global, source: &[u8], line: &[u8], blob: &[u8]) -> Result<bool, AllocError> {
+    let mut files = source_files(alloc, source)?;
+    let told = is_told(alloc, &mut files, source, line, 0)?;
+    Ok(told && files.held("snapshot.blob") == Some(blob))
+}
+
+/// Whether the build of the source writes the expected blob.
+fn is_built_as_expected(alloc: Global) -> Result<bool, AllocError> {
+    let blob = expected_blob(alloc)?;
+    is_built_as(alloc, SOURCE.as_bytes(), b"7\n", &blob)
 }
 
 #[test]
 fn a_built_blob(rt: HostRuntime) -> Result<(), Fail> {
-    let alloc = rt.alloc();
-    let built = blob_built(&rt, alloc, SOURCE.as_bytes(), b"7\n", 0)?;
-    assert_eq!(rt; built, Some(expected_blob(alloc)?));
+    assert!(rt; is_built_as_expected(rt.alloc())?);
     // A build that is refused writes nothing.
-    let built = blob_built(&rt, alloc, b"foo", b"not built\n", 11)?;
-    assert_eq!(rt; built, None);
+    assert!(rt; is_built(rt.alloc(), b"foo", b"not built\n", 11)?);
     Ok(())
 }
 
@@ -233,13 +252,19 @@ const PRINTING: [(&str, &str, u8); 33] = [
     ),
 ];
 
+/// The first script that prints something else.
+fn first_printing_otherwise(alloc: Global) -> Result<Option<usize>, AllocError> {
+    for (row, (source, line, status)) in PRINTING.iter().enumerate() {
+        if !is_built(alloc, source.as_bytes(), line.as_bytes(), *status)? {
+            return Ok(Some(row));
+        }
+    }
+    Ok(None)
+}
+
 #[test]
 fn printed_lines(rt: HostRuntime) -> Result<(), Fail> {
-    let alloc = rt.alloc();
-    for (source, line, status) in PRINTING {
-        let built = blob_built(&rt, alloc, source.as_bytes(), line.as_bytes(), status)?;
-        assert_eq!(rt; built.is_some(), status == 0, "{source}");
-    }
+    assert_eq!(rt; first_printing_otherwise(rt.alloc())?, None);
     Ok(())
 }
 
@@ -292,21 +317,39 @@ const REFUSED: [(&str, SourceRefused, &str); 9] = [
     ),
 ];
 
-/// A source that is refused is so under its place among the sources, and nothing is written.
+/// Whether a source is refused, for this reason and under its place among the sources, and nothing is
+/// written.
+fn is_refused(
+    alloc: Global,
+    source: &str,
+    why: SourceRefused,
+    line: &str,
+) -> Result<bool, AllocError> {
+    let held = one_file(alloc, "bad.js", source.as_bytes())?;
+    let mut files = HonestFiles::new(alloc, held);
+    let mut out = HonestSink::new(alloc);
+    let outcome = outcome_of(alloc, &["build", "bad.js"], &mut files, &mut out)?;
+    Ok(
+        outcome.fault == Some(Fault::Source(0, why))
+            && outcome.status == 3
+            && out.written() == line.as_bytes()
+            && files.held("snapshot.blob").is_none(),
+    )
+}
+
+/// The first source that is not.
+fn first_accepted(alloc: Global) -> Result<Option<usize>, AllocError> {
+    for (row, (source, why, line)) in REFUSED.iter().enumerate() {
+        if !is_refused(alloc, source, *why, line)? {
+            return Ok(Some(row));
+        }
+    }
+    Ok(None)
+}
+
 #[test]
 fn refused_sources(rt: HostRuntime) -> Result<(), Fail> {
-    let alloc = rt.alloc();
-    for (source, why, line) in REFUSED {
-        let words = words_of(alloc, &["build", "bad.js"])?;
-        let held = script_file(alloc, "bad.js", source.as_bytes())?;
-        let mut files = HonestFiles::new(alloc, held);
-        let mut out = HonestSink::new(alloc);
-        let outcome = snap_serial(alloc, &words, &mut files, &mut out, 0);
-        assert_eq!(rt; outcome.fault, Some(Fault::Source(0, why)), "{source}");
-        assert_eq!(rt; outcome.status, 3);
-        assert_eq!(rt; out.written(), line.as_bytes(), "{source}");
-        assert_eq!(rt; files.held("snapshot.blob"), None);
-    }
+    assert_eq!(rt; first_accepted(rt.alloc())?, None);
     Ok(())
 }
 
@@ -321,39 +364,68 @@ fn long_lines(alloc: Global, count: u32) -> Result<Vec<u8>, AllocError> {
     Ok(source)
 }
 
-#[test]
-fn longest_source(rt: HostRuntime) -> Result<(), Fail> {
-    let alloc = rt.alloc();
-    let mut source = vec![in alloc; b' '; 1_048_561]?;
+/// A script that prints 7, behind so many spaces.
+fn spaced(alloc: Global, spaces: usize) -> Result<Vec<u8>, AllocError> {
+    let mut source = vec![in alloc; b' '; spaces]?;
     source.extend_from_slice(b"console.log(7);")?;
-    assert!(rt; blob_built(&rt, alloc, &source, b"7\n", 0)?.is_some());
+    Ok(source)
+}
+
+/// Whether a source of 1,048,576 bytes is built.
+fn is_longest_built(alloc: Global) -> Result<bool, AllocError> {
+    let source = spaced(alloc, 1_048_561)?;
+    is_built(alloc, &source, b"7\n", 0)
+}
+
+/// Whether a source of one byte more is refused.
+fn is_longer_refused(alloc: Global) -> Result<bool, AllocError> {
+    let mut source = spaced(alloc, 1_048_561)?;
     source.push(b' ')?;
     let line = b"source refused: s.js TooLong at 1048576\n";
-    assert_eq!(rt; blob_built(&rt, alloc, &source, line, 3)?, None);
-    Ok(())
+    is_built(alloc, &source, line, 3)
 }
 
 #[test]
-fn most_printed(rt: HostRuntime) -> Result<(), Fail> {
-    let alloc = rt.alloc();
-    // 1,024 lines of 16,384 bytes are 16,777,216 bytes.
+fn longest_source(rt: HostRuntime) -> Result<(), Fail> {
+    assert!(rt; is_longest_built(rt.alloc())?);
+    assert!(rt; is_longer_refused(rt.alloc())?);
+    Ok(())
+}
+
+/// 1,024 lines of 16,384 bytes, which are 16,777,216 bytes.
+fn most_lines(alloc: Global) -> Result<Vec<u8>, AllocError> {
     let mut line = vec![in alloc; b'a'; 16_383]?;
     line.push(b'\n')?;
     let mut printed = Vec::new(alloc);
     for _ in 0..1_024 {
         printed.extend_from_slice(&line)?;
     }
+    Ok(printed)
+}
+
+/// Whether a script that prints these is built.
+fn are_most_lines_printed(alloc: Global) -> Result<bool, AllocError> {
+    let printed = most_lines(alloc)?;
     let source = long_lines(alloc, 1_024)?;
-    assert!(rt; blob_built(&rt, alloc, &source, &printed, 0)?.is_some());
+    is_built(alloc, &source, &printed, 0)
+}
+
+#[test]
+fn most_printed(rt: HostRuntime) -> Result<(), Fail> {
+    assert!(rt; are_most_lines_printed(rt.alloc())?);
     Ok(())
+}
+
+/// Whether a script that prints one byte more is not built.
+fn is_one_more_refused(alloc: Global) -> Result<bool, AllocError> {
+    let mut source = long_lines(alloc, 1_024)?;
+    source.extend_from_slice(b"console.log('');")?;
+    is_built(alloc, &source, b"not built\n", 11)
 }
 
 #[test]
 fn one_byte_too_many(rt: HostRuntime) -> Result<(), Fail> {
-    let alloc = rt.alloc();
-    let mut source = long_lines(alloc, 1_024)?;
-    source.extend_from_slice(b"console.log('');")?;
-    assert_eq!(rt; blob_built(&rt, alloc, &source, b"not built\n", 11)?, None);
+    assert!(rt; is_one_more_refused(rt.alloc())?);
     Ok(())
 }
 
@@ -420,13 +492,17 @@ fn many_blob(alloc: Global, source: &[u8]) -> Result<Vec<u8>, AllocError> {
     blob_of(alloc, &strings, source, &keys, &values)
 }
 
+/// Whether the build of the many assignments writes this blob.
+fn are_many_built(alloc: Global) -> Result<bool, AllocError> {
+    let source = many_assignments(alloc)?;
+    let blob = many_blob(alloc, &source)?;
+    let lines = b"5000\n5007\n7500\n9999\nundefined\n";
+    is_built_as(alloc, &source, lines, &blob)
+}
+
 #[test]
 fn many_names(rt: HostRuntime) -> Result<(), Fail> {
-    let alloc = rt.alloc();
-    let source = many_assignments(alloc)?;
-    let line = b"5000\n5007\n7500\n9999\nundefined\n";
-    let built = blob_built(&rt, alloc, &source, line, 0)?;
-    assert!(rt; built == Some(many_blob(alloc, &source)?));
+    assert!(rt; are_many_built(rt.alloc())?);
     Ok(())
 }
 
@@ -450,26 +526,36 @@ const FAILING: [(&[u32], &[u32], &str, &str, u8, bool); 7] = [
     (&[1], &[0], "s.js", "", 7, false),
 ];
 
+/// The source, where these calls fail, and an old blob.
+fn old_files(alloc: Global, calls: &[u32]) -> Result<MemFiles, AllocError> {
+    let mut files = failing_files(alloc, calls, "s.js", SOURCE.as_bytes())?;
+    match files.write("snapshot.blob", b"old") {
+        Ok(()) => Ok(files),
+        Err(_) => Err(AllocError),
+    }
+}
+
+/// Whether the files hold the source still, and this blob.
+fn are_held(files: &MemFiles, blob: &[u8]) -> bool {
+    files.held("s.js") == Some(SOURCE.as_bytes()) && files.held("snapshot.blob") == Some(blob)
+}
+
+/// The first of them that is told otherwise, or leaves other files.
+fn first_told_otherwise(alloc: Global, blob: &[u8]) -> Result<Option<usize>, AllocError> {
+    for (row, (calls, puts, name, line, status, written)) in FAILING.iter().enumerate() {
+        let now = if *written { blob } else { b"old".as_slice() };
+        let mut files = old_files(alloc, calls)?;
+        let told = is_failure_told(alloc, &["build", name], &mut files, puts, line, *status)?;
+        if !told || !are_held(&files, now) {
+            return Ok(Some(row));
+        }
+    }
+    Ok(None)
+}
+
 #[test]
 fn failing_builds(rt: HostRuntime) -> Result<(), Fail> {
-    let alloc = rt.alloc();
-    let blob = expected_blob(alloc)?;
-    for (calls, puts, name, line, status, written) in FAILING {
-        let words = words_of(alloc, &["build", name])?;
-        let held = script_file(alloc, "s.js", SOURCE.as_bytes())?;
-        let mut files = MemFiles::new(alloc, held, calls.to_vec(alloc)?);
-        files.write("snapshot.blob", b"old")?;
-        let mut out = MemSink::new(alloc, puts.to_vec(alloc)?);
-        let outcome = snap_serial(alloc, &words, &mut files, &mut out, 0);
-        assert_eq!(rt; outcome.status, status, "{line}");
-        assert_eq!(rt; out.written(), line.as_bytes(), "{line}");
-        assert_eq!(rt; files.held("s.js"), Some(SOURCE.as_bytes()));
-        let now = if written {
-            blob.as_slice()
-        } else {
-            b"old".as_slice()
-        };
-        assert_eq!(rt; files.held("snapshot.blob"), Some(now), "{line}");
-    }
+    let blob = expected_blob(rt.alloc())?;
+    assert_eq!(rt; first_told_otherwise(rt.alloc(), &blob)?, None);
     Ok(())
 }

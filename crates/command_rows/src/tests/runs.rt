@@ -1,17 +1,16 @@
 //! What `run` prints over files in memory: entries on blobs that were built, and on blobs by hand.
 
-ghost use Rattle.std.specs.Prelude.{IfOk};
-ghost use Rattle.snap_io.specs.NamedFile.{AreApart};
-
 use super::builds::string_section;
-use super::{BLOB_A, CONTEXT, EXTERNALS, READ_ONLY, STARTUP, prints, sealed, words_of};
-use snap_commands::{Fault, SourceRefused, snap_serial};
-use snap_io::{Files, HonestFiles, HonestSink, MemFiles, MemSink, NamedFile};
+use super::{
+    BLOB_A, CONTEXT, EXTERNALS, READ_ONLY, STARTUP, damaged, ended, failing_files, is_failure_told,
+    is_verified, one_file, outcome_of, sealed, words_of,
+};
+use snap_commands::{Fault, SourceRefused};
+use snap_io::{Files, HonestFiles, HonestSink, MemFiles};
 use snap_lex::LexFault;
 use snap_parse::SourceFault;
 use snap_scope::ScopeFault;
 use std::alloc::{AllocError, Global};
-use std::process::Abort;
 use std::test::Fail;
 
 /// The strings of the blobs by hand; the last one is used nowhere.
@@ -117,56 +116,48 @@ fn by_hand(alloc: Global, made: ByHand) -> Result<Vec<u8>, AllocError> {
     sealed(alloc, &sections)
 }
 
-/// Files of which one is held.
-pub(super) fn script_file(
-    alloc: Global,
-    name: &str,
-    source: &[u8],
-) -> Result<Vec<NamedFile>, AllocError>
-    ensures { IfOk result (λ files. AreApart files.items) }
-{
-    let name = String::from_str(alloc, name)?;
-    let bytes = Vec::from_slice(alloc, source)?;
-    let mut files = Vec::new(alloc);
-    files.push(NamedFile { name, bytes })?;
-    Ok(files)
+/// An entry, and this blob.
+fn run_files(alloc: Global, blob: &[u8], entry: &[u8]) -> Result<HonestFiles, AllocError> {
+    let mut files = HonestFiles::new(alloc, one_file(alloc, "e.js", entry)?);
+    match files.write("snapshot.blob", blob) {
+        Ok(()) => Ok(files),
+        Err(_) => Err(AllocError),
+    }
 }
 
-/// That `run` of an entry on this blob prints this and ends with this status, and the files keep what
+/// Whether `run` of an entry on this blob prints this and ends with this status, and the files keep what
 /// they hold.
-fn runs(
-    rt: &impl Abort,
+fn is_run(
     alloc: Global,
     blob: &[u8],
     entry: &[u8],
     line: &[u8],
     status: u8,
-) -> Result<(), Fail> {
-    let words = words_of(alloc, &["run", "e.js"])?;
-    let mut files = HonestFiles::new(alloc, script_file(alloc, "e.js", entry)?);
-    files.write("snapshot.blob", blob)?;
+) -> Result<bool, AllocError> {
+    let mut files = run_files(alloc, blob, entry)?;
     let mut out = HonestSink::new(alloc);
-    let outcome = snap_serial(alloc, &words, &mut files, &mut out, 0);
-    assert!(rt; out.written() == line);
-    assert_eq!(rt; outcome.status, status);
-    assert_eq!(rt; outcome.fault == None, status == 0);
-    assert!(rt; files.held("e.js") == Some(entry));
-    assert!(rt; files.held("snapshot.blob") == Some(blob));
-    Ok(())
+    let outcome = outcome_of(alloc, &["run", "e.js"], &mut files, &mut out)?;
+    Ok(
+        out.written() == line
+            && ended(&outcome, status)
+            && files.held("e.js") == Some(entry)
+            && files.held("snapshot.blob") == Some(blob),
+    )
 }
 
-/// The blob that a build of this source leaves.
-fn built(rt: &impl Abort, alloc: Global, source: &[u8]) -> Result<Vec<u8>, Fail> {
-    let words = words_of(alloc, &["build", "s.js"])?;
-    let mut files = HonestFiles::new(alloc, script_file(alloc, "s.js", source)?);
+/// The blob that a build of this source leaves, or no bytes where it is refused.
+fn built(alloc: Global, source: &[u8]) -> Result<Vec<u8>, AllocError> {
+    let mut files = HonestFiles::new(alloc, one_file(alloc, "s.js", source)?);
     let mut out = HonestSink::new(alloc);
-    let outcome = snap_serial(alloc, &words, &mut files, &mut out, 0);
-    assert_eq!(rt; outcome.status, 0);
+    let outcome = outcome_of(alloc, &["build", "s.js"], &mut files, &mut out)?;
     match files.held("snapshot.blob") {
-        Some(blob) => Ok(blob.to_vec(alloc)?),
-        None => Ok(Vec::new(alloc)),
+        Some(blob) if outcome.status == 0 => blob.to_vec(alloc),
+        _ => Ok(Vec::new(alloc)),
     }
 }
+
+/// An entry that prints `x`.
+const PRINT_X: &[u8] = b"console.log(globalThis.x);";
 
 const SOURCE: &[u8] = b"globalThis.foo = 'I am from the snapshot'; console.log(7);";
 
@@ -203,55 +194,90 @@ const ENTRIES: [(&str, &str, u8); 13] = [
     ("console.log('a", "source refused: e.js Unclosed at 12\n", 3),
 ];
 
+/// The first entry that is told otherwise.
+fn first_entry_told_otherwise(alloc: Global, blob: &[u8]) -> Result<Option<usize>, AllocError> {
+    for (row, (entry, line, status)) in ENTRIES.iter().enumerate() {
+        if !is_run(alloc, blob, entry.as_bytes(), line.as_bytes(), *status)? {
+            return Ok(Some(row));
+        }
+    }
+    Ok(None)
+}
+
 #[test]
 fn entries(rt: HostRuntime) -> Result<(), Fail> {
-    let alloc = rt.alloc();
-    let blob = built(&rt, alloc, SOURCE)?;
-    for (entry, line, status) in ENTRIES {
-        runs(&rt, alloc, &blob, entry.as_bytes(), line.as_bytes(), status)?;
-    }
-    prints(&rt, alloc, blob, "ok 15 strings\n", 0)?;
+    let blob = built(rt.alloc(), SOURCE)?;
+    assert_eq!(rt; first_entry_told_otherwise(rt.alloc(), &blob)?, None);
+    assert!(rt; is_verified(rt.alloc(), &blob, "ok 15 strings\n", 0)?);
     Ok(())
 }
 
-/// A build and then a run over the same files.
+/// Whether a build and then a run over the same files print their lines.
+fn is_built_and_run(alloc: Global, files: &mut HonestFiles) -> Result<bool, AllocError> {
+    let mut out = HonestSink::new(alloc);
+    let build = outcome_of(alloc, &["build", "s.js"], files, &mut out)?;
+    let run = outcome_of(alloc, &["run", "e.js"], files, &mut out)?;
+    let lines = b"7\nI am from the snapshot\nundefined\n";
+    Ok(build.status == 0 && run.status == 0 && out.written() == lines.as_slice())
+}
+
+/// Whether there is nothing to run where no entry is named.
+fn is_nothing_run(alloc: Global, files: &mut HonestFiles) -> Result<bool, AllocError> {
+    let mut out = HonestSink::new(alloc);
+    let outcome = outcome_of(alloc, &["run"], files, &mut out)?;
+    Ok(
+        outcome.status == 8
+            && outcome.fault == Some(Fault::NothingToRun)
+            && out.written() == b"nothing to run\n".as_slice(),
+    )
+}
+
+/// The source, and an entry that prints what it assigned.
+fn source_and_entry(alloc: Global) -> Result<HonestFiles, AllocError> {
+    let entry = b"console.log(globalThis.foo); console.log(globalThis.bar);";
+    let mut files = HonestFiles::new(alloc, one_file(alloc, "s.js", SOURCE)?);
+    match files.write("e.js", entry) {
+        Ok(()) => Ok(files),
+        Err(_) => Err(AllocError),
+    }
+}
+
 #[test]
 fn built_and_run(rt: HostRuntime) -> Result<(), Fail> {
-    let alloc = rt.alloc();
-    let entry = b"console.log(globalThis.foo); console.log(globalThis.bar);";
-    let mut files = HonestFiles::new(alloc, script_file(alloc, "s.js", SOURCE)?);
-    files.write("e.js", entry)?;
-    let mut out = HonestSink::new(alloc);
-    let words = words_of(alloc, &["build", "s.js"])?;
-    let outcome = snap_serial(alloc, &words, &mut files, &mut out, 0);
-    assert_eq!(rt; outcome.status, 0);
-    let words = words_of(alloc, &["run", "e.js"])?;
-    let outcome = snap_serial(alloc, &words, &mut files, &mut out, 0);
-    assert_eq!(rt; outcome.status, 0);
-    assert_eq!(rt;
-        out.written(),
-        b"7\nI am from the snapshot\nundefined\n".as_slice()
-    );
-    let words = words_of(alloc, &["run"])?;
-    let mut out = HonestSink::new(alloc);
-    let outcome = snap_serial(alloc, &words, &mut files, &mut out, 0);
-    assert_eq!(rt; outcome.status, 8);
-    assert_eq!(rt; outcome.fault, Some(Fault::NothingToRun));
-    assert_eq!(rt; out.written(), b"nothing to run\n".as_slice());
+    let mut files = source_and_entry(rt.alloc())?;
+    assert!(rt; is_built_and_run(rt.alloc(), &mut files)?);
+    assert!(rt; is_nothing_run(rt.alloc(), &mut files)?);
     Ok(())
+}
+
+/// An entry of so many bytes that prints `x`.
+fn long_entry(alloc: Global, len: usize) -> Result<Vec<u8>, AllocError> {
+    let mut entry = vec![in alloc; b' '; len.saturating_sub(PRINT_X.len())]?;
+    entry.extend_from_slice(PRINT_X)?;
+    Ok(entry)
+}
+
+/// Whether an entry of so many bytes is told so.
+fn is_long_entry_run(
+    alloc: Global,
+    len: usize,
+    line: &[u8],
+    status: u8,
+) -> Result<bool, AllocError> {
+    let blob = by_hand(alloc, MINUS_FIVE)?;
+    let entry = long_entry(alloc, len)?;
+    if entry.len() != len {
+        return Ok(false);
+    }
+    is_run(alloc, &blob, &entry, line, status)
 }
 
 #[test]
 fn longest_entry(rt: HostRuntime) -> Result<(), Fail> {
-    let alloc = rt.alloc();
-    let blob = by_hand(alloc, MINUS_FIVE)?;
-    let mut entry = vec![in alloc; b' '; 1_048_552]?;
-    entry.extend_from_slice(b"console.log(globalThis.x);")?;
-    entry.truncate(1_048_578);
-    assert_eq!(rt; entry.len(), 1_048_578);
-    runs(&rt, alloc, &blob, &entry[2..], b"-5\n", 0)?;
+    assert!(rt; is_long_entry_run(rt.alloc(), 1_048_576, b"-5\n", 0)?);
     let line = b"source refused: e.js TooLong at 1048576\n";
-    runs(&rt, alloc, &blob, &entry[1..], line, 3)
+    assert!(rt; is_long_entry_run(rt.alloc(), 1_048_577, line, 3)?);
+    Ok(())
 }
 
 /// Entries that are refused, why, and how that is told.
@@ -268,21 +294,37 @@ const REFUSED: [(&str, SourceRefused, &str); 2] = [
     ),
 ];
 
-/// An entry that is refused is so under the number of the blob's scripts.
+/// Whether an entry is refused, for this reason and under the number of the blob's scripts.
+fn is_refused(
+    alloc: Global,
+    entry: &str,
+    why: SourceRefused,
+    line: &str,
+) -> Result<bool, AllocError> {
+    let blob = by_hand(alloc, MINUS_FIVE)?;
+    let mut files = run_files(alloc, &blob, entry.as_bytes())?;
+    let mut out = HonestSink::new(alloc);
+    let outcome = outcome_of(alloc, &["run", "e.js"], &mut files, &mut out)?;
+    Ok(
+        outcome.fault == Some(Fault::Source(1, why))
+            && outcome.status == 3
+            && out.written() == line.as_bytes(),
+    )
+}
+
+/// The first entry that is not.
+fn first_accepted(alloc: Global) -> Result<Option<usize>, AllocError> {
+    for (row, (entry, why, line)) in REFUSED.iter().enumerate() {
+        if !is_refused(alloc, entry, *why, line)? {
+            return Ok(Some(row));
+        }
+    }
+    Ok(None)
+}
+
 #[test]
 fn refused_entries(rt: HostRuntime) -> Result<(), Fail> {
-    let alloc = rt.alloc();
-    for (entry, why, line) in REFUSED {
-        let words = words_of(alloc, &["run", "e.js"])?;
-        let held = script_file(alloc, "e.js", entry.as_bytes())?;
-        let mut files = HonestFiles::new(alloc, held);
-        files.write("snapshot.blob", &by_hand(alloc, MINUS_FIVE)?)?;
-        let mut out = HonestSink::new(alloc);
-        let outcome = snap_serial(alloc, &words, &mut files, &mut out, 0);
-        assert_eq!(rt; outcome.fault, Some(Fault::Source(1, why)), "{entry}");
-        assert_eq!(rt; outcome.status, 3);
-        assert_eq!(rt; out.written(), line.as_bytes(), "{entry}");
-    }
+    assert_eq!(rt; first_accepted(rt.alloc())?, None);
     Ok(())
 }
 
@@ -331,31 +373,43 @@ const LAST: [(&[u8], &[u8], &str, u8); 20] = [
     (&[3], &[5, 10], "not built\n", 11),
 ];
 
-#[test]
-fn last_properties(rt: HostRuntime) -> Result<(), Fail> {
-    let alloc = rt.alloc();
-    for (keys, values, line, status) in LAST {
+/// Whether a run on this blob prints `x` so, and `verify` takes or refuses it like the run.
+fn is_run_and_verified(
+    alloc: Global,
+    made: ByHand,
+    line: &str,
+    status: u8,
+) -> Result<bool, AllocError> {
+    let blob = by_hand(alloc, made)?;
+    if !is_run(alloc, &blob, PRINT_X, line.as_bytes(), status)? {
+        return Ok(false);
+    }
+    let verified = if status == 0 {
+        "ok 18 strings\n"
+    } else {
+        "not built\n"
+    };
+    is_verified(alloc, &blob, verified, status)
+}
+
+/// The first last property of which something else is told.
+fn first_last_told_otherwise(alloc: Global) -> Result<Option<usize>, AllocError> {
+    for (row, (keys, values, line, status)) in LAST.iter().enumerate() {
         let made = ByHand {
             last_keys: keys,
             last_values: values,
             ..MINUS_FIVE
         };
-        let blob = by_hand(alloc, made)?;
-        runs(
-            &rt,
-            alloc,
-            &blob,
-            b"console.log(globalThis.x);",
-            line.as_bytes(),
-            status,
-        )?;
-        let line = if status == 0 {
-            "ok 18 strings\n"
-        } else {
-            "not built\n"
-        };
-        prints(&rt, alloc, blob, line, status)?;
+        if !is_run_and_verified(alloc, made, line, *status)? {
+            return Ok(Some(row));
+        }
     }
+    Ok(None)
+}
+
+#[test]
+fn last_properties(rt: HostRuntime) -> Result<(), Fail> {
+    assert_eq!(rt; first_last_told_otherwise(rt.alloc())?, None);
     Ok(())
 }
 
@@ -441,20 +495,25 @@ const MADE: [(ByHand, &str, u8); 9] = [
     ),
 ];
 
+/// Whether a run on this blob prints `x` so.
+fn is_made_run(alloc: Global, made: ByHand, line: &str, status: u8) -> Result<bool, AllocError> {
+    let blob = by_hand(alloc, made)?;
+    is_run(alloc, &blob, PRINT_X, line.as_bytes(), status)
+}
+
+/// The first blob by hand of which something else is told.
+fn first_made_told_otherwise(alloc: Global) -> Result<Option<usize>, AllocError> {
+    for (row, (made, line, status)) in MADE.iter().enumerate() {
+        if !is_made_run(alloc, *made, line, *status)? {
+            return Ok(Some(row));
+        }
+    }
+    Ok(None)
+}
+
 #[test]
 fn blobs_by_hand(rt: HostRuntime) -> Result<(), Fail> {
-    let alloc = rt.alloc();
-    for (made, line, status) in MADE {
-        let blob = by_hand(alloc, made)?;
-        runs(
-            &rt,
-            alloc,
-            &blob,
-            b"console.log(globalThis.x);",
-            line.as_bytes(),
-            status,
-        )?;
-    }
+    assert_eq!(rt; first_made_told_otherwise(rt.alloc())?, None);
     Ok(())
 }
 
@@ -468,23 +527,22 @@ fn many_assignments(alloc: Global) -> Result<Vec<u8>, AllocError> {
     Ok(source)
 }
 
-#[test]
-fn entry_on_many_names(rt: HostRuntime) -> Result<(), Fail> {
-    let alloc = rt.alloc();
+/// Whether an entry on a blob of many names prints what they hold.
+fn is_run_on_many_names(alloc: Global) -> Result<bool, AllocError> {
     let source = many_assignments(alloc)?;
-    let blob = built(&rt, alloc, &source)?;
+    let blob = built(alloc, &source)?;
     let entry =
         b"console.log(globalThis.n0); console.log(globalThis.n7); console.log(globalThis.n4999);
         globalThis.n2500 = 1; console.log(globalThis.n2500); console.log(globalThis.n5000);";
     // 7 times 2,857 is 19,999, which is 4,999 behind a multiple of 5,000.
-    runs(
-        &rt,
-        alloc,
-        &blob,
-        entry,
-        b"text 0\ntext 1\ntext 2857\n1\nundefined\n",
-        0,
-    )
+    let lines = b"text 0\ntext 1\ntext 2857\n1\nundefined\n";
+    is_run(alloc, &blob, entry, lines, 0)
+}
+
+#[test]
+fn entry_on_many_names(rt: HostRuntime) -> Result<(), Fail> {
+    assert!(rt; is_run_on_many_names(rt.alloc())?);
+    Ok(())
 }
 
 /// How a run is told whose outside fails: the failing calls of the files, of which the first puts the
@@ -547,57 +605,91 @@ const FAILING: [(&[u32], &str, &[u32], &[&str], &str, u8); 13] = [
     (&[], "snapshot.blob", &[0], &["run"], "", 7),
 ];
 
+/// The entry, where these calls fail, and the blob under this name.
+fn entry_files(
+    alloc: Global,
+    calls: &[u32],
+    name: &str,
+    blob: &[u8],
+) -> Result<MemFiles, AllocError> {
+    let mut files = failing_files(alloc, calls, "e.js", PRINT_X)?;
+    match files.write(name, blob) {
+        Ok(()) => Ok(files),
+        Err(_) => Err(AllocError),
+    }
+}
+
+/// Whether the files hold the entry still, and this blob under this name.
+fn are_held(files: &MemFiles, name: &str, blob: &[u8]) -> bool {
+    files.held("e.js") == Some(PRINT_X) && files.held(name) == Some(blob)
+}
+
+/// The first of them that is told otherwise, or does not leave the files as they were.
+fn first_told_otherwise(alloc: Global, blob: &[u8]) -> Result<Option<usize>, AllocError> {
+    for (row, (calls, name, puts, words, line, status)) in FAILING.iter().enumerate() {
+        let mut files = entry_files(alloc, calls, name, blob)?;
+        let told = is_failure_told(alloc, words, &mut files, puts, line, *status)?;
+        if !told || !are_held(&files, name, blob) {
+            return Ok(Some(row));
+        }
+    }
+    Ok(None)
+}
+
 #[test]
 fn failing_runs(rt: HostRuntime) -> Result<(), Fail> {
-    let alloc = rt.alloc();
-    let entry = b"console.log(globalThis.x);";
-    let blob = by_hand(alloc, MINUS_FIVE)?;
-    for (calls, name, puts, words, line, status) in FAILING {
-        let words = words_of(alloc, words)?;
-        let held = script_file(alloc, "e.js", entry)?;
-        let mut files = MemFiles::new(alloc, held, calls.to_vec(alloc)?);
-        files.write(name, &blob)?;
-        let mut out = MemSink::new(alloc, puts.to_vec(alloc)?);
-        let outcome = snap_serial(alloc, &words, &mut files, &mut out, 0);
-        assert_eq!(rt; outcome.status, status, "{line}");
-        assert_eq!(rt; out.written(), line.as_bytes(), "{line}");
-        assert_eq!(rt; files.held("e.js"), Some(entry.as_slice()));
-        assert_eq!(rt; files.held(name), Some(blob.as_slice()));
-    }
+    let blob = by_hand(rt.alloc(), MINUS_FIVE)?;
+    assert_eq!(rt; first_told_otherwise(rt.alloc(), &blob)?, None);
     Ok(())
 }
 
-/// That a run of an entry that is not there is told so of this blob.
-fn refuses(
-    rt: &impl Abort,
+/// Whether a run of these words over this blob alone is told so.
+fn is_run_refused(
     alloc: Global,
+    words: &[&str],
     blob: &[u8],
     line: &str,
     status: u8,
-) -> Result<(), Fail> {
-    for words in [["run"].as_slice(), ["run", "e.js"].as_slice()] {
-        let words = words_of(alloc, words)?;
-        let held = script_file(alloc, "snapshot.blob", blob)?;
-        let mut files = MemFiles::new(alloc, held, Vec::new(alloc));
-        let mut out = MemSink::new(alloc, Vec::new(alloc));
-        let outcome = snap_serial(alloc, &words, &mut files, &mut out, 0);
-        assert_eq!(rt; outcome.status, status, "{line}");
-        assert_eq!(rt; out.written(), line.as_bytes(), "{line}");
-    }
-    Ok(())
+) -> Result<bool, AllocError> {
+    let mut files = failing_files(alloc, &[], "snapshot.blob", blob)?;
+    is_failure_told(alloc, words, &mut files, &[], line, status)
+}
+
+/// Whether a run of no entry and one of an entry that is not there are told so.
+fn is_blob_refused(alloc: Global, blob: &[u8], line: &str, status: u8) -> Result<bool, AllocError> {
+    Ok(
+        is_run_refused(alloc, &["run"], blob, line, status)?
+            && is_run_refused(alloc, &["run", "e.js"], blob, line, status)?,
+    )
+}
+
+/// Whether a blob with one byte more is refused.
+fn is_longer_refused(alloc: Global) -> Result<bool, AllocError> {
+    let mut blob = by_hand(alloc, MINUS_FIVE)?;
+    blob.push(0)?;
+    is_blob_refused(alloc, &blob, "blob refused: BadLength at 12\n", 5)
+}
+
+/// Whether a blob with a second context is refused.
+fn is_second_context_refused(alloc: Global) -> Result<bool, AllocError> {
+    let sections: [&[u8]; 5] = [&EXTERNALS, &READ_ONLY, &STARTUP, &CONTEXT, &CONTEXT];
+    let blob = sealed(alloc, &sections)?;
+    is_blob_refused(alloc, &blob, "not built\n", 11)
+}
+
+/// Whether each of five blobs is refused.
+fn are_refused(alloc: Global) -> Result<[bool; 5], AllocError> {
+    Ok([
+        is_longer_refused(alloc)?,
+        is_blob_refused(alloc, &damaged(), "blob refused: BadDigest at 16\n", 5)?,
+        is_blob_refused(alloc, &BLOB_A, "not built\n", 11)?,
+        is_second_context_refused(alloc)?,
+        is_blob_refused(alloc, b"", "blob refused: TooShort at 0\n", 5)?,
+    ])
 }
 
 #[test]
 fn refused_blobs(rt: HostRuntime) -> Result<(), Fail> {
-    let alloc = rt.alloc();
-    let mut blob = by_hand(alloc, MINUS_FIVE)?;
-    blob.push(0)?;
-    refuses(&rt, alloc, &blob, "blob refused: BadLength at 12\n", 5)?;
-    let mut damaged = BLOB_A;
-    damaged[88] = 0;
-    refuses(&rt, alloc, &damaged, "blob refused: BadDigest at 16\n", 5)?;
-    refuses(&rt, alloc, &BLOB_A, "not built\n", 11)?;
-    let five: [&[u8]; 5] = [&EXTERNALS, &READ_ONLY, &STARTUP, &CONTEXT, &CONTEXT];
-    refuses(&rt, alloc, &sealed(alloc, &five)?, "not built\n", 11)?;
-    refuses(&rt, alloc, b"", "blob refused: TooShort at 0\n", 5)
+    assert_eq!(rt; are_refused(rt.alloc())?, [true; 5]);
+    Ok(())
 }

@@ -1,28 +1,48 @@
 //! Stores, called through the trait's bound.
 
-ghost use Rattle.std.specs.Prelude.{◌≡◌, ◌≤◌, ◌<◌, ℕ, IfOk, length};
+ghost use Rattle.std.specs.Prelude.{◌≡◌, ◌≤◌, ◌<◌, ℕ, IfOk, Some, length};
 ghost use Rattle.snap_graph.specs.declared.kind.Kind.TheVariants.{Native};
 ghost use Rattle.snap_graph.specs.Intrinsics.{IsNative};
+ghost use Rattle.snap_graph.specs.Values.{IsValue};
 
 mod logged;
 mod plain;
 mod wide;
 
+use super::objects;
+use super::refused::Refused;
 use snap_graph::{Kind, Value};
-use snap_store::{Store, StoreFault};
-use snap_text::Units;
+use snap_store::Store;
+use snap_text::{Key, Units};
 use std::alloc::Global;
-use std::test::Fail;
 
 /// Makes a node with no prototype.
-fn made<S: Store>(store: &mut S, kind: Kind) -> Result<u32, Fail>
+fn made<S: Store>(store: &mut S, kind: Kind) -> Result<u32, Refused>
     requires { (number : ℕ) → kind ≡ Native number → IsNative number }
     ensures node { IfOk result (λ node. node < length (S.nodes store.new)) }
     ensures grows { length (S.nodes store.old) ≤ length (S.nodes store.new) }
 {
-    let null = Value::Null;
-    let held = store.hold(&null)?;
-    Ok(store.make(kind, &held)?)
+    objects::made(store, kind, &Value::Null)
+}
+
+/// A number, held.
+fn held_number<S: Store>(store: &mut S, number: u8) -> Result<S::Held, Refused>
+    ensures owned { IfOk result (λ held. S.owns store.new held) }
+    ensures value { IfOk result (λ held. IsValue (length (S.nodes store.new)) (S.meaning store.new held)) }
+    ensures nodes { S.nodes store.new ≡ S.nodes store.old }
+    ensures later { S.later store.old store.new }
+{
+    Ok(store.hold(&Value::Int(i64::from(number)))?)
+}
+
+/// The key of a text.
+fn key_of<S: Store>(alloc: Global, store: &mut S, units: &[u16]) -> Result<Key, Refused>
+    ensures key { IfOk result (λ key. S.key_of store.new units.now ≡ Some key) }
+    ensures nodes { S.nodes store.new ≡ S.nodes store.old }
+    ensures later { S.later store.old store.new }
+{
+    let text = Units::of(alloc, units)?;
+    Ok(store.key(&text)?)
 }
 
 /// Writes a property of a node that is neither frozen nor an array. Of any other it says that it does not.
@@ -30,42 +50,19 @@ fn put<S: Store>(
     alloc: Global,
     store: &mut S,
     node: u32,
-    key: &[u16],
+    units: &[u16],
     number: u8,
-) -> Result<bool, Fail>
+) -> Result<bool, Refused>
     requires { node < length (S.nodes store.old) }
     ensures { length (S.nodes store.new) ≡ length (S.nodes store.old) }
 {
-    if store.is_frozen(node) || store.kind(node) == Kind::Array {
+    if !objects::takes_properties(store, node) {
         return Ok(false);
     }
-    let text = Units::of(alloc, key)?;
-    let held = store.hold(&Value::Int(i64::from(number)))?;
-    let key = store.key(&text)?;
+    let key = key_of(alloc, store, units)?;
+    let held = held_number(store, number)?;
     store.put_own(node, key, &held)?;
     Ok(true)
-}
-
-/// Why no property is written of a node that is neither frozen nor an array.
-fn put_fault<S: Store>(
-    alloc: Global,
-    store: &mut S,
-    node: u32,
-    key: &[u16],
-) -> Result<Option<StoreFault>, Fail>
-    requires { node < length (S.nodes store.old) }
-    ensures { length (S.nodes store.new) ≡ length (S.nodes store.old) }
-{
-    if store.is_frozen(node) || store.kind(node) == Kind::Array {
-        return Ok(None);
-    }
-    let text = Units::of(alloc, key)?;
-    let held = store.hold(&Value::Null)?;
-    let key = store.key(&text)?;
-    match store.put_own(node, key, &held) {
-        Ok(()) => Ok(None),
-        Err(fault) => Ok(Some(fault)),
-    }
 }
 
 /// What a node holds under a key.
@@ -73,13 +70,12 @@ fn read<S: Store>(
     alloc: Global,
     store: &mut S,
     node: u32,
-    key: &[u16],
-) -> Result<Option<Value>, Fail>
+    units: &[u16],
+) -> Result<Option<Value>, Refused>
     requires { node < length (S.nodes store.old) }
     ensures { length (S.nodes store.new) ≡ length (S.nodes store.old) }
 {
-    let text = Units::of(alloc, key)?;
-    let key = store.key(&text)?;
+    let key = key_of(alloc, store, units)?;
     match store.own(node, key) {
         Some(held) => Ok(Some(store.value(&held)?)),
         None => Ok(None),
@@ -87,33 +83,37 @@ fn read<S: Store>(
 }
 
 /// Removes a property of a node that is not frozen, and says whether there was one.
-fn removed<S: Store>(alloc: Global, store: &mut S, node: u32, key: &[u16]) -> Result<bool, Fail>
+fn removed<S: Store>(
+    alloc: Global,
+    store: &mut S,
+    node: u32,
+    units: &[u16],
+) -> Result<bool, Refused>
     requires { node < length (S.nodes store.old) }
     ensures { length (S.nodes store.new) ≡ length (S.nodes store.old) }
 {
     if store.is_frozen(node) {
         return Ok(false);
     }
-    let text = Units::of(alloc, key)?;
-    let key = store.key(&text)?;
+    let key = key_of(alloc, store, units)?;
     Ok(store.remove_own(node, key)?)
 }
 
 /// Puts a number behind the elements of an array that is not frozen. Of any other node it says that it does not.
-fn pushed<S: Store>(store: &mut S, node: u32, number: u8) -> Result<bool, Fail>
+fn pushed<S: Store>(store: &mut S, node: u32, number: u8) -> Result<bool, Refused>
     requires { node < length (S.nodes store.old) }
     ensures { length (S.nodes store.new) ≡ length (S.nodes store.old) }
 {
     if store.is_frozen(node) || store.kind(node) != Kind::Array {
         return Ok(false);
     }
-    let held = store.hold(&Value::Int(i64::from(number)))?;
+    let held = held_number(store, number)?;
     store.push_element(node, &held)?;
     Ok(true)
 }
 
 /// Puts a number behind the elements of an array so many times, and says whether each time it was done.
-fn filled<S: Store>(store: &mut S, node: u32, count: u32) -> Result<bool, Fail>
+fn filled<S: Store>(store: &mut S, node: u32, count: u32) -> Result<bool, Refused>
     requires { node < length (S.nodes store.old) }
     ensures { length (S.nodes store.new) ≡ length (S.nodes store.old) }
 {
@@ -125,35 +125,21 @@ fn filled<S: Store>(store: &mut S, node: u32, count: u32) -> Result<bool, Fail>
     Ok(true)
 }
 
-/// Why no number is put behind the elements of an array that is not frozen.
-fn push_fault<S: Store>(store: &mut S, node: u32) -> Result<Option<StoreFault>, Fail>
-    requires { node < length (S.nodes store.old) }
-{
-    if store.is_frozen(node) || store.kind(node) != Kind::Array {
-        return Ok(None);
-    }
-    let held = store.hold(&Value::Null)?;
-    match store.push_element(node, &held) {
-        Ok(()) => Ok(None),
-        Err(fault) => Ok(Some(fault)),
-    }
-}
-
 /// Writes an element of an array that is not frozen.
-fn written<S: Store>(store: &mut S, node: u32, i: u32, number: u8) -> Result<bool, Fail>
+fn written<S: Store>(store: &mut S, node: u32, i: u32, number: u8) -> Result<bool, Refused>
     requires { node < length (S.nodes store.old) }
     ensures { length (S.nodes store.new) ≡ length (S.nodes store.old) }
 {
     if store.is_frozen(node) || store.kind(node) != Kind::Array || i >= store.count(node) {
         return Ok(false);
     }
-    let held = store.hold(&Value::Int(i64::from(number)))?;
+    let held = held_number(store, number)?;
     store.set_element(node, i, &held);
     Ok(true)
 }
 
 /// Takes the last element of an array that is not frozen.
-fn popped<S: Store>(store: &mut S, node: u32) -> Result<Option<Value>, Fail>
+fn popped<S: Store>(store: &mut S, node: u32) -> Result<Option<Value>, Refused>
     requires { node < length (S.nodes store.old) }
     ensures { length (S.nodes store.new) ≡ length (S.nodes store.old) }
 {
@@ -167,7 +153,7 @@ fn popped<S: Store>(store: &mut S, node: u32) -> Result<Option<Value>, Fail>
 }
 
 /// An element.
-fn element<S: Store>(store: &S, node: u32, i: u32) -> Result<Option<Value>, Fail>
+fn element<S: Store>(store: &S, node: u32, i: u32) -> Result<Option<Value>, Refused>
     requires { node < length (S.nodes store.now) }
 {
     if i >= store.count(node) {
@@ -178,7 +164,7 @@ fn element<S: Store>(store: &S, node: u32, i: u32) -> Result<Option<Value>, Fail
 }
 
 /// The prototype of a node.
-fn prototype<S: Store>(store: &S, node: u32) -> Result<Value, Fail>
+fn prototype<S: Store>(store: &S, node: u32) -> Result<Value, Refused>
     requires { node < length (S.nodes store.now) }
 {
     let held = store.prototype(node);
@@ -203,16 +189,25 @@ fn frozen<S: Store>(store: &mut S, node: u32)
     store.freeze(node);
 }
 
-/// The keys of a node, each with a comma behind it.
-fn keys<S: Store>(alloc: Global, store: &S, node: u32) -> Result<Vec<u16>, Fail>
+/// Whether these are the keys of a node, in order.
+fn has_keys<S: Store>(store: &S, node: u32, order: &[&[u16]]) -> Result<bool, Refused>
     requires { node < length (S.nodes store.now) }
 {
-    let mut text = Vec::new(alloc);
-    for key in store.own_keys(node)? {
-        text.extend_from_slice(key.units())?;
-        text.push(0x2C)?;
+    let keys = store.own_keys(node)?;
+    Ok(are_texts(keys.as_slice(), order))
+}
+
+/// Whether the texts are these, in order.
+fn are_texts(texts: &[Units], order: &[&[u16]]) -> bool {
+    if texts.len() != order.len() {
+        return false;
     }
-    Ok(text)
+    for (text, units) in texts.iter().zip(order) {
+        if text.units() != *units {
+            return false;
+        }
+    }
+    true
 }
 
 /// The number that a value is, a node's too.
@@ -238,7 +233,12 @@ enum Step<'a> {
 }
 
 /// What a step answers: the number that it reads, whether there was a property, or whether it was done.
-fn taken<S: Store>(alloc: Global, store: &mut S, node: u32, step: Step) -> Result<Option<i64>, Fail>
+fn taken<S: Store>(
+    alloc: Global,
+    store: &mut S,
+    node: u32,
+    step: Step,
+) -> Result<Option<i64>, Refused>
     requires { node < length (S.nodes store.old) }
     ensures { length (S.nodes store.new) ≡ length (S.nodes store.old) }
 {
@@ -263,7 +263,7 @@ fn played<S: Store>(
     store: &mut S,
     node: u32,
     steps: &[(Step, Option<i64>)],
-) -> Result<Option<usize>, Fail>
+) -> Result<Option<usize>, Refused>
     requires { node < length (S.nodes store.old) }
     ensures { length (S.nodes store.new) ≡ length (S.nodes store.old) }
 {
@@ -273,4 +273,17 @@ fn played<S: Store>(
         }
     }
     Ok(None)
+}
+
+/// The first step that answers otherwise than it should, of a new node.
+fn played_anew<S: Store>(
+    alloc: Global,
+    store: &mut S,
+    kind: Kind,
+    steps: &[(Step, Option<i64>)],
+) -> Result<Option<usize>, Refused>
+    requires { (number : ℕ) → kind ≡ Native number → IsNative number }
+{
+    let node = made(store, kind)?;
+    played(alloc, store, node, steps)
 }

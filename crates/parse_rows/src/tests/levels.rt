@@ -74,36 +74,60 @@ const ROWS: [(&str, &str, &str, u8); 36] = [
     ("", "a", "\n.b", 99),
 ];
 
+/// Whether this stands so often round its middle and is answered so.
+fn is_answered(
+    alloc: Global,
+    open: &str,
+    middle: &str,
+    close: &str,
+    count: usize,
+    wanted: char,
+) -> Result<bool, AllocError> {
+    let source = nested(alloc, open, middle, close, count)?;
+    Ok(answer(alloc, source.as_str())? == wanted)
+}
+
+/// The first row of which as many as may stand round the middle are no tree, or one more is one.
+fn first_misjudged(alloc: Global) -> Result<Option<usize>, AllocError> {
+    for (row, (open, middle, close, most)) in ROWS.iter().enumerate() {
+        let most = usize::from(*most);
+        if !is_answered(alloc, open, middle, close, most, 't')? {
+            return Ok(Some(row));
+        }
+        if !is_answered(alloc, open, middle, close, most + 1, 'n')? {
+            return Ok(Some(row));
+        }
+    }
+    Ok(None)
+}
+
 #[test]
 fn levels_of_each_production(rt: HostRuntime) -> Result<(), Fail> {
-    for (open, middle, close, most) in ROWS {
-        let most = usize::from(most);
-        let source = nested(rt.alloc(), open, middle, close, most)?;
-        assert_eq!(rt;
-            answer(rt.alloc(), source.as_str())?,
-            't',
-            "of {most} times {open}{close}"
-        );
-        let source = nested(rt.alloc(), open, middle, close, most + 1)?;
-        assert_eq!(rt;
-            answer(rt.alloc(), source.as_str())?,
-            'n',
-            "of more than {most} times {open}{close}"
-        );
-    }
+    assert_eq!(rt; first_misjudged(rt.alloc())?, None);
     Ok(())
+}
+
+/// What opens, what closes, how often this stands round a number, and the answer.
+const PARENTHESES: [(&str, &str, usize, char); 4] = [
+    ("(", ")", 10_000, 't'),
+    ("(", ")", 500_000, 't'),
+    ("(", ").a", 100, 'n'),
+    ("(", "", 10_000, 'o'),
+];
+
+/// The first row that is answered otherwise.
+fn first_misanswered(alloc: Global) -> Result<Option<usize>, AllocError> {
+    for (row, (open, close, count, wanted)) in PARENTHESES.iter().enumerate() {
+        if !is_answered(alloc, open, "1", close, *count, *wanted)? {
+            return Ok(Some(row));
+        }
+    }
+    Ok(None)
 }
 
 #[test]
 fn parentheses_take_no_level(rt: HostRuntime) -> Result<(), Fail> {
-    let source = nested(rt.alloc(), "(", "1", ")", 10_000)?;
-    assert_eq!(rt; answer(rt.alloc(), source.as_str())?, 't');
-    let source = nested(rt.alloc(), "(", "1", ")", 500_000)?;
-    assert_eq!(rt; answer(rt.alloc(), source.as_str())?, 't');
-    let source = nested(rt.alloc(), "(", "1", ").a", 100)?;
-    assert_eq!(rt; answer(rt.alloc(), source.as_str())?, 'n');
-    let source = nested(rt.alloc(), "(", "1", "", 10_000)?;
-    assert_eq!(rt; answer(rt.alloc(), source.as_str())?, 'o');
+    assert_eq!(rt; first_misanswered(rt.alloc())?, None);
     Ok(())
 }
 
@@ -112,14 +136,19 @@ fn nodes_of(alloc: Global, source: &str) -> Result<usize, SourceFault> {
     Ok(parse(alloc, source.as_bytes())?.nodes.as_slice().len())
 }
 
+/// Whether a source of so many empty statements is answered so.
+fn is_counted(
+    alloc: Global,
+    count: usize,
+    wanted: Result<usize, SourceFault>,
+) -> Result<bool, AllocError> {
+    let source = nested(alloc, ";", "", "", count)?;
+    Ok(nodes_of(alloc, source.as_str()) == wanted)
+}
+
 #[test]
 fn refuses_only_past_the_limit(rt: HostRuntime) -> Result<(), Fail> {
-    let mut source = nested(rt.alloc(), ";", "", "", 1_048_576)?;
-    assert_eq!(rt; nodes_of(rt.alloc(), source.as_str()), Ok(1_048_576));
-    source.push(';')?;
-    assert_eq!(rt;
-        nodes_of(rt.alloc(), source.as_str()),
-        Err(SourceFault::TooLong)
-    );
+    assert!(rt; is_counted(rt.alloc(), 1_048_576, Ok(1_048_576))?);
+    assert!(rt; is_counted(rt.alloc(), 1_048_577, Err(SourceFault::TooLong))?);
     Ok(())
 }

@@ -3,6 +3,7 @@
 //! its phrase, its production, its children's numbers and the names with their places.
 
 use super::answer;
+use std::alloc::{AllocError, Global};
 use std::test::Fail;
 
 /// Sources, and behind `→` what they are, each row with `¶` at its end.
@@ -111,30 +112,29 @@ if (a) let b;→Syntax(7)¶\
 if (a) else ;→Syntax(7)¶\
 ";
 
-#[test]
-fn gives_trees(rt: HostRuntime) -> Result<(), Fail> {
-    for row in TREES.split_terminator('¶') {
+/// The first row that is answered otherwise.
+fn first_misanswered(
+    alloc: Global,
+    rows: &'static str,
+) -> Result<Option<&'static str>, AllocError> {
+    for row in rows.split_terminator('¶') {
         if let Some((source, wanted)) = row.split_once('→') {
-            assert_eq!(rt;
-                answer(rt.alloc(), source.as_bytes())?.as_str(),
-                wanted,
-                "of {source}"
-            );
+            if answer(alloc, source.as_bytes())?.as_str() != wanted {
+                return Ok(Some(row));
+            }
         }
     }
+    Ok(None)
+}
+
+#[test]
+fn gives_trees(rt: HostRuntime) -> Result<(), Fail> {
+    assert_eq!(rt; first_misanswered(rt.alloc(), TREES)?, None);
     Ok(())
 }
 
 #[test]
 fn tells_faults(rt: HostRuntime) -> Result<(), Fail> {
-    for row in FAULTS.split_terminator('¶') {
-        if let Some((source, wanted)) = row.split_once('→') {
-            assert_eq!(rt;
-                answer(rt.alloc(), source.as_bytes())?.as_str(),
-                wanted,
-                "of {source}"
-            );
-        }
-    }
+    assert_eq!(rt; first_misanswered(rt.alloc(), FAULTS)?, None);
     Ok(())
 }

@@ -192,16 +192,29 @@ arguments await break case catch class const continue debugger default delete do
 arguments;arguments'' arguments+ await;await'' await+ break;break'' break+ case;case'' case+ catch;catch'' catch+ class;class'' class+ const;const'' const+ continue;continue'' continue+ debugger;debugger'' debugger+ default;default'' default+ delete;delete'' delete+ do;do'' do+ else;else'' else+ enum;enum'' enum+ eval;eval'' eval+ export;export'' export+ extends;extends'' extends+ false;false'' false+ finally;finally'' finally+ for;for'' for+ function;function'' function+ if;if'' if+ implements;implements'' implements+ import;import'' import+ in;in'' in+ instanceof;instanceof'' instanceof+ interface;interface'' interface+ let;let'' let+ new;new'' new+ null;null'' null+ package;package'' package+ private;private'' private+ protected;protected'' protected+ public;public'' public+ return;return'' return+ static;static'' static+ super;super'' super+ switch;switch'' switch+ this;this'' this+ throw;throw'' throw+ true;true'' true+ try;try'' try+ typeof;typeof'' typeof+ undefined;undefined'' undefined+ var;var'' var+ void;void'' void+ while;while'' while+ with;with'' with+ yield;yield'' yield+→W:arguments M:; W:arguments T:'' W:arguments M:+ W:await M:; W:await T:'' W:await M:+ W:break M:; W:break T:'' W:break M:+ W:case M:; W:case T:'' W:case M:+ W:catch M:; W:catch T:'' W:catch M:+ W:class M:; W:class T:'' W:class M:+ W:const M:; W:const T:'' W:const M:+ W:continue M:; W:continue T:'' W:continue M:+ W:debugger M:; W:debugger T:'' W:debugger M:+ W:default M:; W:default T:'' W:default M:+ W:delete M:; W:delete T:'' W:delete M:+ W:do M:; W:do T:'' W:do M:+ W:else M:; W:else T:'' W:else M:+ W:enum M:; W:enum T:'' W:enum M:+ W:eval M:; W:eval T:'' W:eval M:+ W:export M:; W:export T:'' W:export M:+ W:extends M:; W:extends T:'' W:extends M:+ W:false M:; W:false T:'' W:false M:+ W:finally M:; W:finally T:'' W:finally M:+ W:for M:; W:for T:'' W:for M:+ W:function M:; W:function T:'' W:function M:+ W:if M:; W:if T:'' W:if M:+ W:implements M:; W:implements T:'' W:implements M:+ W:import M:; W:import T:'' W:import M:+ W:in M:; W:in T:'' W:in M:+ W:instanceof M:; W:instanceof T:'' W:instanceof M:+ W:interface M:; W:interface T:'' W:interface M:+ W:let M:; W:let T:'' W:let M:+ W:new M:; W:new T:'' W:new M:+ W:null M:; W:null T:'' W:null M:+ W:package M:; W:package T:'' W:package M:+ W:private M:; W:private T:'' W:private M:+ W:protected M:; W:protected T:'' W:protected M:+ W:public M:; W:public T:'' W:public M:+ W:return M:; W:return T:'' W:return M:+ W:static M:; W:static T:'' W:static M:+ W:super M:; W:super T:'' W:super M:+ W:switch M:; W:switch T:'' W:switch M:+ W:this M:; W:this T:'' W:this M:+ W:throw M:; W:throw T:'' W:throw M:+ W:true M:; W:true T:'' W:true M:+ W:try M:; W:try T:'' W:try M:+ W:typeof M:; W:typeof T:'' W:typeof M:+ W:undefined M:; W:undefined T:'' W:undefined M:+ W:var M:; W:var T:'' W:var M:+ W:void M:; W:void T:'' W:void M:+ W:while M:; W:while T:'' W:while M:+ W:with M:; W:with T:'' W:with M:+ W:yield M:; W:yield T:'' W:yield M:+¶\
 ";
 
+/// Whether a source has these tokens, or this fault.
+fn is_shown(alloc: Global, source: &[u8], wanted: &str) -> Result<bool, AllocError> {
+    if source.len() > 100_000 {
+        return Ok(false);
+    }
+    Ok(shown(alloc, source)?.as_str() == wanted)
+}
+
+/// The first row whose tokens are others.
+fn first_misshown(alloc: Global) -> Result<Option<&'static str>, AllocError> {
+    for row in CASES.split('¶') {
+        if let Some((source, wanted)) = row.split_once('→') {
+            if !is_shown(alloc, source.as_bytes(), wanted)? {
+                return Ok(Some(row));
+            }
+        }
+    }
+    Ok(None)
+}
+
 #[test]
 fn sources_and_their_tokens(rt: HostRuntime) -> Result<(), Fail> {
-    for row in CASES.split('¶') {
-        let Some((source, wanted)) = row.split_once('→') else {
-            continue;
-        };
-        assert!(rt; source.len() <= 100_000);
-        let found = shown(rt.alloc(), source.as_bytes())?;
-        assert_eq!(rt; found.as_str(), wanted, "in {source}");
-    }
+    assert_eq!(rt; first_misshown(rt.alloc())?, None);
     Ok(())
 }
 
@@ -209,18 +222,29 @@ fn sources_and_their_tokens(rt: HostRuntime) -> Result<(), Fail> {
 const ALONE: &[u8; 256] =
     b"xxxxxxxxx  xx xxxxxxxxxxxxxxxxxx MUxNMMUMMMMMMMMDDDDDDDDDDMMMMMMxNNNNNNNNNNNNNNNNNNNNNNNNNNMxMMNxNNNNNNNNNNNNNNNNNNNNNNNNNNMMMMxxxxxxxxxxxxxxxxxxxxxxxxxxxxxxxxxxxxxxxxxxxxxxxxxxxxxxxxxxxxxxxxxxxxxxxxxxxxxxxxxxxxxxxxxxxxxxxxxxxxxxxxxxxxxxxxxxxxxxxxxxxxxxxxx";
 
+/// The tokens of a byte alone, or its fault.
+fn alone(alloc: Global, byte: u8) -> Result<String, AllocError> {
+    match ALONE[usize::from(byte)] {
+        b' ' => Ok(String::new(alloc)),
+        b'x' => String::from_str(alloc, "BadByte 0"),
+        b'U' => String::from_str(alloc, "Unclosed 0"),
+        kind => format!(in alloc; "{}:{}", char::from(kind), char::from(byte)),
+    }
+}
+
+/// The first byte whose tokens are others.
+fn first_byte_misshown(alloc: Global) -> Result<Option<u8>, AllocError> {
+    for byte in 0..=255u8 {
+        if !is_shown(alloc, &[byte], alone(alloc, byte)?.as_str())? {
+            return Ok(Some(byte));
+        }
+    }
+    Ok(None)
+}
+
 #[test]
 fn every_byte_alone(rt: HostRuntime) -> Result<(), Fail> {
-    for byte in 0..=255u8 {
-        let found = shown(rt.alloc(), &[byte])?;
-        let wanted = match ALONE[usize::from(byte)] {
-            b' ' => String::new(rt.alloc()),
-            b'x' => String::from_str(rt.alloc(), "BadByte 0")?,
-            b'U' => String::from_str(rt.alloc(), "Unclosed 0")?,
-            kind => format!(in rt.alloc(); "{}:{}", char::from(kind), char::from(byte))?,
-        };
-        assert_eq!(rt; found.as_str(), wanted.as_str(), "at {byte}");
-    }
+    assert_eq!(rt; first_byte_misshown(rt.alloc())?, None);
     Ok(())
 }
 
@@ -237,59 +261,94 @@ fn long(alloc: Global, front: &[u8], byte: u8, end: &[u8]) -> Result<Vec<u8>, Al
     Ok(whole)
 }
 
+/// What stands in front, the byte, what stands at the end, and how many tokens the source has.
+const LONG: [(&[u8], u8, &[u8], usize); 6] = [
+    (b"", b'a', b"", 1),
+    (b"'", b'a', b"'", 1),
+    (b"/*", b'*', b"*/", 0),
+    (b"//", b'/', b"", 0),
+    (b"", b'+', b"", 524_288),
+    (b"", b';', b"", 1_048_576),
+];
+
+/// How many tokens a source has that is as long as one may be.
+fn count(alloc: Global, front: &[u8], byte: u8, end: &[u8]) -> Result<Option<usize>, AllocError> {
+    if front.len() + end.len() >= 100 {
+        return Ok(None);
+    }
+    let source = long(alloc, front, byte, end)?;
+    match tokens(alloc, source.as_slice()) {
+        Ok(list) => Ok(Some(list.len())),
+        Err(_) => Ok(None),
+    }
+}
+
+/// The first row that has another number of tokens.
+fn first_miscounted(alloc: Global) -> Result<Option<usize>, AllocError> {
+    for (row, (front, byte, end, wanted)) in LONG.iter().enumerate() {
+        if count(alloc, front, *byte, end)? != Some(*wanted) {
+            return Ok(Some(row));
+        }
+    }
+    Ok(None)
+}
+
 #[test]
 fn sources_as_long_as_they_may_be(rt: HostRuntime) -> Result<(), Fail> {
-    let cases: [(&[u8], u8, &[u8], usize); 6] = [
-        (b"", b'a', b"", 1),
-        (b"'", b'a', b"'", 1),
-        (b"/*", b'*', b"*/", 0),
-        (b"//", b'/', b"", 0),
-        (b"", b'+', b"", 524_288),
-        (b"", b';', b"", 1_048_576),
-    ];
-    for (front, byte, end, count) in cases {
-        assert!(rt; front.len() + end.len() < 100);
-        let source = long(rt.alloc(), front, byte, end)?;
-        let list = tokens(rt.alloc(), source.as_slice())
-            .ok()
-            .expect(&rt, "tokens");
-        assert_eq!(rt; list.len(), count);
-    }
+    assert_eq!(rt; first_miscounted(rt.alloc())?, None);
     Ok(())
+}
+
+/// Numbers, and the values of those that have one.
+const NUMBERS: [(&[u8], Option<u64>); 9] = [
+    (b"0", Some(0)),
+    (b"10", Some(10)),
+    (b"1234567890", Some(1_234_567_890)),
+    (b"0x0", Some(0)),
+    (b"0XaF", Some(175)),
+    (b"0x1fffffffffffff", Some(9_007_199_254_740_991)),
+    (b"9007199254740991", Some(9_007_199_254_740_991)),
+    (b"9007199254740992", None),
+    (b"99999999999999999999999", None),
+];
+
+/// The first number that has another value.
+fn first_misread() -> Option<usize> {
+    for (row, (text, wanted)) in NUMBERS.iter().enumerate() {
+        if safe_number(text) != *wanted {
+            return Some(row);
+        }
+    }
+    None
 }
 
 #[test]
 fn values_of_numbers(rt: HostRuntime) {
-    let cases: [(&[u8], Option<u64>); 9] = [
-        (b"0", Some(0)),
-        (b"10", Some(10)),
-        (b"1234567890", Some(1_234_567_890)),
-        (b"0x0", Some(0)),
-        (b"0XaF", Some(175)),
-        (b"0x1fffffffffffff", Some(9_007_199_254_740_991)),
-        (b"9007199254740991", Some(9_007_199_254_740_991)),
-        (b"9007199254740992", None),
-        (b"99999999999999999999999", None),
-    ];
-    for (text, wanted) in cases {
-        assert_eq!(rt; safe_number(text), wanted);
+    assert_eq!(rt; first_misread(), None);
+}
+
+/// Texts with their quotes, and their units.
+const TEXTS: [(&[u8], &[u16]); 6] = [
+    (b"''", &[]),
+    (b"'ab'", &[97, 98]),
+    (b"'\\b\\t\\n\\v\\f\\r\\0'", &[8, 9, 10, 11, 12, 13, 0]),
+    (b"'\\x41\\xfF\\u0041\\u00e9'", &[65, 255, 65, 233]),
+    (b"'\\'\\\"\\\\\\a'", &[39, 34, 92, 97]),
+    (b"\"it's\"", &[105, 116, 39, 115]),
+];
+
+/// The first text that stands for other units.
+fn first_misspelt(alloc: Global) -> Result<Option<usize>, AllocError> {
+    for (row, (text, wanted)) in TEXTS.iter().enumerate() {
+        if text.len() < 2 || text_units(alloc, text)?.as_slice() != *wanted {
+            return Ok(Some(row));
+        }
     }
+    Ok(None)
 }
 
 #[test]
 fn units_of_texts(rt: HostRuntime) -> Result<(), Fail> {
-    let cases: [(&[u8], &[u16]); 6] = [
-        (b"''", &[]),
-        (b"'ab'", &[97, 98]),
-        (b"'\\b\\t\\n\\v\\f\\r\\0'", &[8, 9, 10, 11, 12, 13, 0]),
-        (b"'\\x41\\xfF\\u0041\\u00e9'", &[65, 255, 65, 233]),
-        (b"'\\'\\\"\\\\\\a'", &[39, 34, 92, 97]),
-        (b"\"it's\"", &[105, 116, 39, 115]),
-    ];
-    for (text, wanted) in cases {
-        assert!(rt; text.len() >= 2);
-        let units = text_units(rt.alloc(), text)?;
-        assert_eq!(rt; units.as_slice(), wanted);
-    }
+    assert_eq!(rt; first_misspelt(rt.alloc())?, None);
     Ok(())
 }

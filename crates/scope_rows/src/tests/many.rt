@@ -1,7 +1,11 @@
 //! Many names in one scope, and many scopes round a node.
 
+ghost use Rattle.std.specs.Prelude.{◌<◌, length};
+ghost use Rattle.snap_ast.specs.Lawful.{Lawful};
+
 use super::{node_at, scopes_of, tree_of};
-use snap_scope::SlotPlace;
+use snap_ast::Tree;
+use snap_scope::{Scopes, SlotPlace};
 use std::alloc::{AllocError, Global};
 use std::test::Fail;
 
@@ -31,54 +35,101 @@ fn blocks(alloc: Global, count: usize) -> Result<String, AllocError> {
     Ok(source)
 }
 
+/// Whether a name with this number stands at a place from a node.
+fn is_at(
+    alloc: Global,
+    scopes: &Scopes,
+    node: u32,
+    number: u32,
+    place: SlotPlace,
+) -> Result<bool, AllocError>
+    requires { node < length scopes.now.nodes }
+{
+    let name = format!(in alloc; "n{number}")?;
+    Ok(scopes.slot_of(node, name.as_bytes()) == Some(place))
+}
+
+/// How many of the names from `n0` on are found from a node, each in the slot of its number.
+fn slots(alloc: Global, scopes: &Scopes, node: u32) -> Result<u32, AllocError>
+    requires { node < length scopes.now.nodes }
+{
+    for slot in 0..10_000u32 {
+        let place = SlotPlace {
+            hops: 0,
+            slot,
+            constant: false,
+        };
+        if !is_at(alloc, scopes, node, slot, place)? {
+            return Ok(slot);
+        }
+    }
+    Ok(10_000)
+}
+
+/// How many slots the script of a tree has, and how many of its names are found in them from its first node.
+fn found_in_script(alloc: Global, tree: &Tree) -> Result<Option<(u32, u32)>, AllocError>
+    requires { Lawful tree.now }
+{
+    let Some(node) = node_at(tree, 0) else {
+        return Ok(None);
+    };
+    match scopes_of(alloc, tree)? {
+        Ok(scopes) => Ok(Some((scopes.top().slots, slots(alloc, &scopes, node)?))),
+        Err(_) => Ok(None),
+    }
+}
+
 #[test]
 fn finds_one_name_among_many(rt: HostRuntime) -> Result<(), Fail> {
     let source = names(rt.alloc(), 10_000)?;
-    let mut found = false;
-    if let Some(tree) = tree_of(rt.alloc(), source.as_bytes()) {
-        if let Some(node) = node_at(&tree, 0) {
-            if let Ok(scopes) = scopes_of(rt.alloc(), &tree)? {
-                assert_eq!(rt; scopes.top().slots, 10_000);
-                for slot in 0..10_000u32 {
-                    let name = format!(in rt.alloc(); "n{slot}")?;
-                    let place = SlotPlace {
-                        hops: 0,
-                        slot,
-                        constant: false,
-                    };
-                    assert_eq!(rt; scopes.slot_of(node, name.as_bytes()), Some(place));
-                }
-                found = true;
-            }
+    let tree = tree_of(rt.alloc(), source.as_bytes()).expect(&rt, "a tree");
+    let found = found_in_script(rt.alloc(), &tree)?;
+    assert_eq!(rt; found, Some((10_000, 10_000)));
+    Ok(())
+}
+
+/// How many of the names from `n99` down are found from a node, each one scope further out.
+fn hops(alloc: Global, scopes: &Scopes, node: u32) -> Result<u32, AllocError>
+    requires { node < length scopes.now.nodes }
+{
+    for hops in 0..100u32 {
+        let place = SlotPlace {
+            hops,
+            slot: 0,
+            constant: false,
+        };
+        if !is_at(alloc, scopes, node, 99 - hops, place)? {
+            return Ok(hops);
         }
     }
-    assert!(rt; found);
-    Ok(())
+    Ok(100)
+}
+
+/// How many scopes lie round the last node that begins at a place, and in how many of them the names of the blocks
+/// are found.
+fn found_in_blocks(
+    alloc: Global,
+    tree: &Tree,
+    at: usize,
+) -> Result<Option<(usize, u32)>, AllocError>
+    requires { Lawful tree.now }
+{
+    let Some(node) = node_at(tree, at) else {
+        return Ok(None);
+    };
+    match scopes_of(alloc, tree)? {
+        Ok(scopes) => Ok(Some((scopes.chain_of(node).len(), hops(alloc, &scopes, node)?))),
+        Err(_) => Ok(None),
+    }
 }
 
 // The declaration in the hundredth block has 100 nodes round it, as many as there may be.
 #[test]
 fn finds_names_through_a_hundred_blocks(rt: HostRuntime) -> Result<(), Fail> {
     let source = blocks(rt.alloc(), 100)?;
-    let mut found = false;
-    if let Some(tree) = tree_of(rt.alloc(), source.as_bytes()) {
-        let last = source.as_str().find("let n99").unwrap_or(0);
-        if let Some(node) = node_at(&tree, last) {
-            if let Ok(scopes) = scopes_of(rt.alloc(), &tree)? {
-                assert_eq!(rt; scopes.chain_of(node).len(), 101);
-                for hops in 0..100u32 {
-                    let name = format!(in rt.alloc(); "n{}", 99 - hops)?;
-                    let place = SlotPlace {
-                        hops,
-                        slot: 0,
-                        constant: false,
-                    };
-                    assert_eq!(rt; scopes.slot_of(node, name.as_bytes()), Some(place));
-                }
-                found = true;
-            }
-        }
-    }
-    assert!(rt; found);
+    let last = source.as_str().find("let n99").unwrap_or(0);
+    let tree = tree_of(rt.alloc(), source.as_bytes()).expect(&rt, "a tree");
+    let found = found_in_blocks(rt.alloc(), &tree, last)?;
+    assert_eq!(rt; found, Some((101, 100)));
     Ok(())
 }

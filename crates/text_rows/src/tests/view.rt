@@ -1,6 +1,7 @@
 //! Texts in a blob.
 
-use snap_text::{StrView, Units};
+use snap_text::{NoMemory, StrView, Units};
+use std::alloc::Global;
 use std::test::Fail;
 
 #[test]
@@ -15,32 +16,45 @@ fn reads_units(rt: HostRuntime) {
     assert!(rt; StrView::One(&[]).is_empty());
 }
 
+/// Views, a text beside each, and whether the two are the same.
+const VIEWED: [(StrView<'static>, &[u16], bool); 12] = [
+    (StrView::One(&[]), &[], true),
+    (StrView::Two(&[]), &[], true),
+    (StrView::One(&[0x61, 0xFF]), &[0x61, 0xFF], true),
+    (StrView::One(&[0x61, 0xFF]), &[0x61], false),
+    (StrView::One(&[0x61, 0xFF]), &[0x61, 0xFF, 0], false),
+    (StrView::One(&[0x61, 0xFF]), &[0x61, 0xFE], false),
+    (StrView::Two(&[0x61, 0, 0x34, 0x12]), &[0x61, 0x1234], true),
+    (StrView::Two(&[0x61, 0, 0x34, 0x12]), &[0x61], false),
+    (
+        StrView::Two(&[0x61, 0, 0x34, 0x12]),
+        &[0x61, 0x1234, 0],
+        false,
+    ),
+    (StrView::Two(&[0x61, 0, 0x34, 0x12]), &[0x61, 0x34], false),
+    (StrView::Two(&[0x61, 0, 0x34, 0x12]), &[0x61, 0x3412], false),
+    (StrView::Two(&[0x61, 0, 0x62]), &[0x61], true),
+];
+
+/// Whether a view and its copy are told the same as a text or not.
+fn is_compared(alloc: Global, view: &StrView, units: &[u16], same: bool) -> Result<bool, NoMemory> {
+    let text = Units::of(alloc, units)?;
+    let copy = view.copy(alloc)?;
+    Ok(view.same(&text) == same && view.same(&copy) && (copy.units() == units) == same)
+}
+
+/// The first view that is not.
+fn first_miscompared(alloc: Global) -> Result<Option<usize>, NoMemory> {
+    for (row, (view, units, same)) in VIEWED.iter().enumerate() {
+        if !is_compared(alloc, view, units, *same)? {
+            return Ok(Some(row));
+        }
+    }
+    Ok(None)
+}
+
 #[test]
 fn compares_and_copies(rt: HostRuntime) -> Result<(), Fail> {
-    let rows: [(StrView, &[u16], bool); 12] = [
-        (StrView::One(&[]), &[], true),
-        (StrView::Two(&[]), &[], true),
-        (StrView::One(&[0x61, 0xFF]), &[0x61, 0xFF], true),
-        (StrView::One(&[0x61, 0xFF]), &[0x61], false),
-        (StrView::One(&[0x61, 0xFF]), &[0x61, 0xFF, 0], false),
-        (StrView::One(&[0x61, 0xFF]), &[0x61, 0xFE], false),
-        (StrView::Two(&[0x61, 0, 0x34, 0x12]), &[0x61, 0x1234], true),
-        (StrView::Two(&[0x61, 0, 0x34, 0x12]), &[0x61], false),
-        (
-            StrView::Two(&[0x61, 0, 0x34, 0x12]),
-            &[0x61, 0x1234, 0],
-            false,
-        ),
-        (StrView::Two(&[0x61, 0, 0x34, 0x12]), &[0x61, 0x34], false),
-        (StrView::Two(&[0x61, 0, 0x34, 0x12]), &[0x61, 0x3412], false),
-        (StrView::Two(&[0x61, 0, 0x62]), &[0x61], true),
-    ];
-    for (view, units, same) in rows {
-        let text = Units::of(rt.alloc(), units)?;
-        assert_eq!(rt; view.same(&text), same, "of {units:?}");
-        let copy = view.copy(rt.alloc())?;
-        assert!(rt; view.same(&copy), "of {units:?}");
-        assert_eq!(rt; copy.units() == units, same, "of {units:?}");
-    }
+    assert_eq!(rt; first_miscompared(rt.alloc())?, None);
     Ok(())
 }

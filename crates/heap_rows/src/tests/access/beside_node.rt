@@ -8,14 +8,15 @@
 //! - the objects that are there from the start are frozen (`FROZEN`);
 //! - the elements and the length of an array are read of the array alone (`ALONE`).
 
-use super::samples::{PROPERTIES, is_one, make_objects, value_of};
+use super::samples::{PROPERTIES, make_objects};
 use super::steps::{Outcome, step};
+use crate::tests::refused::Refused;
+use crate::tests::values::{is_one, value_of};
 use snap_base::Stop;
 use snap_graph::Value;
 use snap_store::{PlainStore, Store};
-use snap_text::{OwnKeys, Units};
+use snap_text::{NoMemory, OwnKeys, Units};
 use std::alloc::Global;
-use std::test::Fail;
 
 /// Node.js gives these answers.
 const SAME: &str = "\
@@ -298,7 +299,7 @@ get #73 'length' = undefined
 ";
 
 // The words of a step. A text has no blank in it.
-fn words_of<'a>(alloc: Global, step: &'a str) -> Result<Vec<&'a str>, Fail> {
+fn words_of<'a>(alloc: Global, step: &'a str) -> Result<Vec<&'a str>, NoMemory> {
     let mut words = Vec::new(alloc);
     for word in step.split(' ') {
         words.push(word)?;
@@ -342,13 +343,24 @@ fn is_value(alloc: Global, value: &Value, word: &str) -> bool {
     }
 }
 
+// Whether a step comes to this.
+fn comes_to<S: Store>(
+    alloc: Global,
+    store: &mut S,
+    one: &str,
+    answer: &str,
+) -> Result<bool, Refused> {
+    let words = words_of(alloc, one)?;
+    let outcome = step(alloc, store, words.as_slice())?;
+    Ok(is_outcome(alloc, &outcome, answer))
+}
+
 // Makes the objects with all that is on them.
-fn fill<S: Store>(alloc: Global, store: &mut S) -> Result<(), Fail> {
+fn fill<S: Store>(alloc: Global, store: &mut S) -> Result<(), Refused> {
     make_objects(alloc, store)?;
     for one in PROPERTIES.lines() {
-        let words = words_of(alloc, one)?;
-        if !is_outcome(alloc, &step(alloc, store, words.as_slice())?, "ok") {
-            return Err(Fail::from("the objects are not filled"));
+        if !comes_to(alloc, store, one, "ok")? {
+            return Err(Refused::Row);
         }
     }
     Ok(())
@@ -360,31 +372,46 @@ fn is_right<S: Store>(
     store: &mut S,
     steps: &str,
     answer: &str,
-) -> Result<bool, Fail> {
+) -> Result<bool, Refused> {
     let mut right = false;
     for one in steps.split("; ") {
-        let words = words_of(alloc, one)?;
-        right = is_outcome(alloc, &step(alloc, store, words.as_slice())?, answer);
+        right = comes_to(alloc, store, one, answer)?;
     }
     Ok(right)
 }
 
 // Whether a row is right, over new objects.
-fn is_answered(alloc: Global, row: &str) -> Result<bool, Fail> {
+fn is_answered(alloc: Global, row: &str) -> Result<bool, Refused> {
     let Some((steps, answer)) = row.split_once(" = ") else {
-        return Ok(false);
+        return Err(Refused::Row);
     };
     let mut store = PlainStore::new(alloc, OwnKeys::new(alloc))?;
     fill(alloc, &mut store)?;
     is_right(alloc, &mut store, steps, answer)
 }
 
-#[test]
-fn gives_what_node_gives(rt: HostRuntime) -> Result<(), Fail> {
-    for table in [SAME, NOT_IN_PROFILE, FROZEN, ALONE] {
-        for row in table.lines() {
-            assert_eq!(rt; is_answered(rt.alloc(), row)?, true, "{row}");
+// The first row of a table that is not right.
+fn first_wrong_of(alloc: Global, table: &'static str) -> Option<&'static str> {
+    for row in table.lines() {
+        if is_answered(alloc, row) != Ok(true) {
+            return Some(row);
         }
     }
-    Ok(())
+    None
+}
+
+// The first row that is not right.
+fn first_wrong(alloc: Global) -> Option<&'static str> {
+    for table in [SAME, NOT_IN_PROFILE, FROZEN, ALONE] {
+        let wrong = first_wrong_of(alloc, table);
+        if wrong.is_some() {
+            return wrong;
+        }
+    }
+    None
+}
+
+#[test]
+fn gives_what_node_gives(rt: HostRuntime) {
+    assert_eq!(rt; first_wrong(rt.alloc()), None);
 }

@@ -4,14 +4,16 @@ ghost use Rattle.std.specs.Prelude.{◌<◌, Err, length};
 ghost use Rattle.snap_graph.specs.Values.{IsValue};
 ghost use Rattle.snap_object.specs.Gives.{Owns};
 
-use super::samples::{last_node, value_of};
+use super::samples::last_node;
+use crate::tests::objects::takes_properties;
+use crate::tests::refused::Refused;
+use crate::tests::values::value_of;
 use snap_base::Stop;
-use snap_graph::{Kind, Value};
+use snap_graph::Value;
 use snap_object::{Abrupt, delete, get, set};
 use snap_store::Store;
 use snap_text::Units;
 use std::alloc::Global;
-use std::test::Fail;
 
 /// What a step came to.
 #[derive(Drop)]
@@ -35,16 +37,16 @@ pub(crate) fn step<S: Store>(
     alloc: Global,
     store: &mut S,
     words: &[&str],
-) -> Result<Outcome, Fail> {
+) -> Result<Outcome, Refused> {
     let last = last_node(store)?;
     let Some(base) = value_of(alloc, last, word(words, 1)) else {
-        return Err(Fail::from("no base"));
+        return Err(Refused::Row);
     };
     let Some(key) = value_of(alloc, last, word(words, 2)) else {
-        return Err(Fail::from("no key"));
+        return Err(Refused::Row);
     };
     let Some(value) = value_of(alloc, last, word(words, 3)) else {
-        return Err(Fail::from("no value"));
+        return Err(Refused::Row);
     };
     match word(words, 0) {
         "get" => read(alloc, store, &base, &key),
@@ -53,7 +55,7 @@ pub(crate) fn step<S: Store>(
         "put" => put(store, last, &base, &key, &value),
         "freeze" => frozen(store, last, &base),
         "keys" => keys(store, last, &base),
-        _ => Err(Fail::from("no verb")),
+        _ => Err(Refused::Row),
     }
 }
 
@@ -66,7 +68,12 @@ fn word<'a>(words: &[&'a str], i: usize) -> &'a str {
 }
 
 // Reads a property.
-fn read<S: Store>(alloc: Global, store: &mut S, base: &Value, key: &Value) -> Result<Outcome, Fail>
+fn read<S: Store>(
+    alloc: Global,
+    store: &mut S,
+    base: &Value,
+    key: &Value,
+) -> Result<Outcome, Refused>
     requires { IsValue (length (S.nodes store.old)) base.now }
 {
     let base = store.hold(base)?;
@@ -83,7 +90,7 @@ fn written<S: Store>(
     base: &Value,
     key: &Value,
     value: &Value,
-) -> Result<Outcome, Fail>
+) -> Result<Outcome, Refused>
     requires base { IsValue (length (S.nodes store.old)) base.now }
     requires key { IsValue (length (S.nodes store.old)) key.now }
     requires value { IsValue (length (S.nodes store.old)) value.now }
@@ -102,7 +109,7 @@ fn deleted<S: Store>(
     store: &mut S,
     base: &Value,
     key: &Value,
-) -> Result<Outcome, Fail>
+) -> Result<Outcome, Refused>
     requires { IsValue (length (S.nodes store.old)) base.now }
 {
     let base = store.hold(base)?;
@@ -119,18 +126,18 @@ fn put<S: Store>(
     base: &Value,
     key: &Value,
     value: &Value,
-) -> Result<Outcome, Fail>
+) -> Result<Outcome, Refused>
     requires last { last < length (S.nodes store.old) }
     requires value { IsValue (length (S.nodes store.old)) value.now }
 {
     let Value::Node(node) = base else {
-        return Err(Fail::from("no node"));
+        return Err(Refused::Row);
     };
     let Value::Text(name) = key else {
-        return Err(Fail::from("no name"));
+        return Err(Refused::Row);
     };
-    if *node > last || store.is_frozen(*node) || store.kind(*node) == Kind::Array {
-        return Err(Fail::from("no object"));
+    if *node > last || !takes_properties(store, *node) {
+        return Err(Refused::Row);
     }
     let held = store.hold(value)?;
     let key = store.key(name)?;
@@ -139,69 +146,69 @@ fn put<S: Store>(
 }
 
 // Freezes a node.
-fn frozen<S: Store>(store: &mut S, last: u32, base: &Value) -> Result<Outcome, Fail>
+fn frozen<S: Store>(store: &mut S, last: u32, base: &Value) -> Result<Outcome, Refused>
     requires { last < length (S.nodes store.old) }
 {
     match base {
         Value::Node(node) => {
             if *node > last {
-                return Err(Fail::from("no node"));
+                return Err(Refused::Row);
             }
             store.freeze(*node);
             Ok(Outcome::Wrote)
         }
-        _ => Err(Fail::from("no node")),
+        _ => Err(Refused::Row),
     }
 }
 
 // The texts of a node's own keys.
-fn keys<S: Store>(store: &S, last: u32, base: &Value) -> Result<Outcome, Fail>
+fn keys<S: Store>(store: &S, last: u32, base: &Value) -> Result<Outcome, Refused>
     requires { last < length (S.nodes store.now) }
 {
     match base {
         Value::Node(node) => {
             if *node > last {
-                return Err(Fail::from("no node"));
+                return Err(Refused::Row);
             }
             Ok(Outcome::Keys(store.own_keys(*node)?))
         }
-        _ => Err(Fail::from("no node")),
+        _ => Err(Refused::Row),
     }
 }
 
 // Why there is no result.
-fn abrupt<S: Store>(store: &mut S, fault: Abrupt<S::Held>) -> Result<Outcome, Fail>
+fn abrupt<S: Store>(store: &mut S, fault: Abrupt<S::Held>) -> Result<Outcome, Refused>
     requires { Owns {R = Unit {0}} (λ done. Unit {0}) (S.owns store.old) (Err fault) }
 {
     match fault {
         Abrupt::Threw(error) => thrown(store, &error),
         Abrupt::Stopped(why) => Ok(Outcome::Stopped(why)),
-        Abrupt::NoMemory => Err(Fail::from("no memory")),
+        Abrupt::NoMemory => Err(Refused::NoMemory),
     }
 }
 
 // What was thrown, if it is a TypeError.
-fn thrown<S: Store>(store: &mut S, error: &S::Held) -> Result<Outcome, Fail>
+fn thrown<S: Store>(store: &mut S, error: &S::Held) -> Result<Outcome, Refused>
     requires { S.owns store.old error.now }
 {
     let error = store.value(error)?;
     let last = last_node(store)?;
     match error {
         Value::Node(node) => type_error(store, last, node),
-        _ => Err(Fail::from("no error was thrown")),
+        _ => Err(Refused::Error),
     }
 }
 
 // A node, if it is a TypeError.
-fn type_error<S: Store>(store: &S, last: u32, node: u32) -> Result<Outcome, Fail>
+fn type_error<S: Store>(store: &S, last: u32, node: u32) -> Result<Outcome, Refused>
     requires { last < length (S.nodes store.now) }
 {
     if node > last {
-        return Err(Fail::from("no node"));
+        return Err(Refused::Row);
     }
     let prototype = store.prototype(node);
     match store.value(&prototype)? {
         Value::Node(7) => Ok(Outcome::TypeError),
-        _ => Err(Fail::from("another error was thrown")),
+        _ => Err(Refused::Error),
     }
 }

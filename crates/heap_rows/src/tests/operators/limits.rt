@@ -1,11 +1,12 @@
 //! The longest text that `+` joins.
 
+ghost use Rattle.std.specs.Prelude.{IfOk};
 ghost use Rattle.snap_oper.specs.Given.{IsOperand};
 
 use snap_base::{MOST_ITEMS, Stop};
 use snap_graph::Value;
 use snap_oper::{BinaryOp, OperFault, binary};
-use snap_text::Units;
+use snap_text::{NoMemory, Units};
 use std::alloc::Global;
 use std::test::Fail;
 
@@ -20,16 +21,31 @@ fn is_too_long(alloc: Global, left: &Value, right: &Value) -> bool
     }
 }
 
+// A text of the most units.
+fn longest(alloc: Global) -> Result<Value, NoMemory>
+    ensures { IfOk result IsOperand }
+{
+    let units = vec![in alloc; 0x61; MOST_ITEMS as usize]?;
+    Ok(Value::Text(Units::from_vec(units)))
+}
+
+// How many units the text has that `+` makes of a value and the empty text.
+fn joined_with_none(alloc: Global, value: &Value) -> Result<Option<usize>, OperFault>
+    requires { IsOperand value.now }
+{
+    let empty = Value::Text(Units::from_vec(Vec::new(alloc)));
+    match binary(alloc, BinaryOp::Add, value, &empty)? {
+        Value::Text(text) => Ok(Some(text.units().len())),
+        _ => Ok(None),
+    }
+}
+
 // A text of the most units is joined with the empty one and with no other. Node.js has longer texts.
 #[test]
 fn joins_up_to_the_limit(rt: HostRuntime) -> Result<(), Fail> {
-    let longest = vec![in rt.alloc(); 0x61; MOST_ITEMS as usize]?;
-    let longest = Value::Text(Units::from_vec(longest));
-    let empty = Value::Text(Units::of(rt.alloc(), &[])?);
-    match binary(rt.alloc(), BinaryOp::Add, &longest, &empty)? {
-        Value::Text(text) => assert_eq!(rt; text.units().len(), MOST_ITEMS as usize),
-        _ => assert!(rt; false, "no text"),
-    }
+    let longest = longest(rt.alloc())?;
+    let most = Some(MOST_ITEMS as usize);
+    assert_eq!(rt; joined_with_none(rt.alloc(), &longest)?, most);
     assert!(rt; is_too_long(rt.alloc(), &longest, &Value::Int(0)));
     assert!(rt; is_too_long(rt.alloc(), &Value::Null, &longest));
     assert!(rt; is_too_long(rt.alloc(), &longest, &longest));

@@ -2,8 +2,9 @@
 
 use super::*;
 use snap_base::NoMemory;
-use snap_store::{PlainStore, PlainValue};
-use snap_text::{Key, OwnKeys};
+use snap_store::{PlainStore, PlainValue, StoreFault};
+use snap_text::OwnKeys;
+use std::test::Fail;
 
 /// A plain store, and the texts that were asked for.
 #[derive(Drop)]
@@ -154,26 +155,36 @@ impl Store for Logged {
     ghost keeps_left_out = { λ first next text later. refl };
 }
 
+/// A store with nothing in its log.
+fn new_logged(alloc: Global) -> Result<Logged, Refused> {
+    let store = PlainStore::new(alloc, OwnKeys::new(alloc))?;
+    Ok(Logged {
+        alloc,
+        store,
+        log: Vec::new(alloc),
+    })
+}
+
+/// A write, a read, and a removal that finds nothing.
+const STEPS: [(Step<'static>, Option<i64>); 3] = [
+    (Step::Put(&[0x61], 1), Some(1)),
+    (Step::Read(&[0x61]), Some(1)),
+    (Step::Remove(&[0x62]), Some(0)),
+];
+
+/// The texts that these ask for.
+const ASKED: [&[u16]; 3] = [&[0x61], &[0x61], &[0x62]];
+
+/// The first step that answers otherwise than it should, and whether all of them are told.
+fn told(alloc: Global) -> Result<(Option<usize>, bool), Refused> {
+    let mut store = new_logged(alloc)?;
+    let wrong = played_anew(alloc, &mut store, Kind::Plain, &STEPS)?;
+    Ok((wrong, are_texts(store.log.as_slice(), &ASKED)))
+}
+
 // Each use of a key is told, once: those of a write, of a read, and of a removal that finds nothing.
 #[test]
 fn tells_its_log(rt: HostRuntime) -> Result<(), Fail> {
-    let alloc = rt.alloc();
-    let mut store = Logged {
-        alloc,
-        store: PlainStore::new(alloc, OwnKeys::new(alloc))?,
-        log: Vec::new(alloc),
-    };
-    let node = made(&mut store, Kind::Plain)?;
-    let steps = [
-        (Step::Put(&[0x61], 1), Some(1)),
-        (Step::Read(&[0x61]), Some(1)),
-        (Step::Remove(&[0x62]), Some(0)),
-    ];
-    assert_eq!(rt; played(alloc, &mut store, node, &steps)?, None);
-    let asked: [&[u16]; 3] = [&[0x61], &[0x61], &[0x62]];
-    assert_eq!(rt; store.log.len(), asked.len());
-    for (text, units) in store.log.iter().zip(asked) {
-        assert_eq!(rt; text.units(), units);
-    }
+    assert_eq!(rt; told(rt.alloc())?, (None, true));
     Ok(())
 }

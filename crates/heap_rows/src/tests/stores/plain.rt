@@ -3,6 +3,7 @@
 use super::*;
 use snap_store::{PlainStore, StoreFault, intrinsics};
 use snap_text::OwnKeys;
+use std::test::Fail;
 
 const A: &[u16] = &[0x61];
 
@@ -14,120 +15,155 @@ const NINE: &[u16] = &[0x39];
 
 const TEN: &[u16] = &[0x31, 0x30];
 
+/// A store of the intrinsics alone.
+fn plain(alloc: Global) -> Result<PlainStore<OwnKeys>, Refused> {
+    Ok(PlainStore::new(alloc, OwnKeys::new(alloc))?)
+}
+
+/// Calls on the properties of a plain object, and what they answer.
+const PROPERTIES: [(Step<'static>, Option<i64>); 16] = [
+    (Step::Put(A, 1), Some(1)),
+    (Step::Put(TEN, 2), Some(1)),
+    (Step::Put(B, 3), Some(1)),
+    (Step::Put(NINE, 4), Some(1)),
+    (Step::Put(C, 5), Some(1)),
+    (Step::Put(A, 6), Some(1)),
+    (Step::Remove(B), Some(1)),
+    (Step::Remove(B), Some(0)),
+    (Step::Read(B), None),
+    (Step::Put(B, 7), Some(1)),
+    (Step::Read(A), Some(6)),
+    (Step::Read(B), Some(7)),
+    (Step::Read(TEN), Some(2)),
+    (Step::Push(1), Some(0)),
+    (Step::Freeze, None),
+    (Step::Put(A, 8), Some(0)),
+];
+
+/// The keys that the object has then, in order.
+const KEYS: [&[u16]; 5] = [NINE, TEN, A, C, B];
+
+/// The first of the calls that answers otherwise, and whether the keys are in order then.
+fn properties_kept<S: Store>(
+    alloc: Global,
+    store: &mut S,
+) -> Result<(Option<usize>, bool), Refused> {
+    let node = made(store, Kind::Plain)?;
+    let wrong = played(alloc, store, node, &PROPERTIES)?;
+    let in_order = has_keys(store, node, &KEYS)?;
+    Ok((wrong, in_order))
+}
+
 // The order of own keys is that of Node.js: indices ascend, a key that is written stays, and one that is removed
 // and created again goes last.
 #[test]
 fn keeps_properties(rt: HostRuntime) -> Result<(), Fail> {
-    let alloc = rt.alloc();
-    let mut store = PlainStore::new(alloc, OwnKeys::new(alloc))?;
-    let node = made(&mut store, Kind::Plain)?;
-    let steps = [
-        (Step::Put(A, 1), Some(1)),
-        (Step::Put(TEN, 2), Some(1)),
-        (Step::Put(B, 3), Some(1)),
-        (Step::Put(NINE, 4), Some(1)),
-        (Step::Put(C, 5), Some(1)),
-        (Step::Put(A, 6), Some(1)),
-        (Step::Remove(B), Some(1)),
-        (Step::Remove(B), Some(0)),
-        (Step::Read(B), None),
-        (Step::Put(B, 7), Some(1)),
-        (Step::Read(A), Some(6)),
-        (Step::Read(B), Some(7)),
-        (Step::Read(TEN), Some(2)),
-        (Step::Push(1), Some(0)),
-        (Step::Freeze, None),
-        (Step::Put(A, 8), Some(0)),
-    ];
-    assert_eq!(rt; played(alloc, &mut store, node, &steps)?, None);
-    let order = [
-        0x39, 0x2C, 0x31, 0x30, 0x2C, 0x61, 0x2C, 0x63, 0x2C, 0x62, 0x2C,
-    ];
-    assert_eq!(rt; keys(alloc, &store, node)?.as_slice(), order.as_slice());
+    let mut store = plain(rt.alloc())?;
+    let kept = properties_kept(rt.alloc(), &mut store)?;
+    assert_eq!(rt; kept, (None, true));
     Ok(())
 }
 
+/// Calls on the elements of an array, and what they answer.
+const ELEMENTS: [(Step<'static>, Option<i64>); 12] = [
+    (Step::Pop, None),
+    (Step::Push(1), Some(1)),
+    (Step::Push(2), Some(1)),
+    (Step::Write(0, 3), Some(1)),
+    (Step::Element(0), Some(3)),
+    (Step::Element(1), Some(2)),
+    (Step::Pop, Some(2)),
+    (Step::Element(1), None),
+    (Step::Freeze, None),
+    (Step::Push(4), Some(0)),
+    (Step::Write(0, 4), Some(0)),
+    (Step::Element(0), Some(3)),
+];
+
 #[test]
 fn keeps_elements(rt: HostRuntime) -> Result<(), Fail> {
-    let alloc = rt.alloc();
-    let mut store = PlainStore::new(alloc, OwnKeys::new(alloc))?;
-    let node = made(&mut store, Kind::Array)?;
-    let steps = [
-        (Step::Pop, None),
-        (Step::Push(1), Some(1)),
-        (Step::Push(2), Some(1)),
-        (Step::Write(0, 3), Some(1)),
-        (Step::Element(0), Some(3)),
-        (Step::Element(1), Some(2)),
-        (Step::Pop, Some(2)),
-        (Step::Element(1), None),
-        (Step::Freeze, None),
-        (Step::Push(4), Some(0)),
-        (Step::Write(0, 4), Some(0)),
-        (Step::Element(0), Some(3)),
-    ];
-    assert_eq!(rt; played(alloc, &mut store, node, &steps)?, None);
+    let mut store = plain(rt.alloc())?;
+    let wrong = played_anew(rt.alloc(), &mut store, Kind::Array, &ELEMENTS)?;
+    assert_eq!(rt; wrong, None);
     Ok(())
+}
+
+/// A resource that is open, and the same closed.
+const OPEN: Kind = Kind::Resource {
+    number: 5,
+    closed: false,
+};
+
+const SHUT: Kind = Kind::Resource {
+    number: 5,
+    closed: true,
+};
+
+/// What a resource is before it is closed and then, and the number that its prototype is.
+fn marks<S: Store>(store: &mut S) -> Result<(Kind, Kind, Option<i64>), Refused> {
+    let node = made(store, OPEN)?;
+    let before = store.kind(node);
+    closed(store, node);
+    let prototype = prototype(store, node)?;
+    Ok((before, store.kind(node), number(Some(prototype))))
 }
 
 #[test]
 fn keeps_marks(rt: HostRuntime) -> Result<(), Fail> {
-    let alloc = rt.alloc();
-    let mut store = PlainStore::new(alloc, OwnKeys::new(alloc))?;
-    let open = Kind::Resource {
-        number: 5,
-        closed: false,
-    };
-    let shut = Kind::Resource {
-        number: 5,
-        closed: true,
-    };
-    let node = made(&mut store, open)?;
-    assert_eq!(rt; store.kind(node), open);
-    closed(&mut store, node);
-    assert_eq!(rt; store.kind(node), shut);
-    assert_eq!(rt; number(Some(prototype(&store, node)?)), None);
+    let mut store = plain(rt.alloc())?;
+    let kept = (OPEN, SHUT, None);
+    assert_eq!(rt; marks(&mut store)?, kept);
     Ok(())
+}
+
+/// How many intrinsics there are.
+fn count_of_intrinsics(alloc: Global) -> Result<usize, Refused> {
+    Ok(intrinsics(alloc)?.nodes.as_slice().len())
+}
+
+/// How many nodes are private in a store of another one's graph, of which so many are to be.
+fn private_nodes_of_graph(alloc: Global, private_nodes: u32) -> Result<u32, Refused> {
+    let store = plain(alloc)?;
+    let graph = store.graph()?;
+    match PlainStore::of(alloc, store.into_keys(), graph, private_nodes) {
+        Ok(store) => Ok(store.private_nodes()),
+        Err(_) => Err(Refused::NoMemory),
+    }
 }
 
 // A graph goes into a store and comes out of it.
 #[test]
 fn keeps_graphs(rt: HostRuntime) -> Result<(), Fail> {
-    let alloc = rt.alloc();
-    assert_eq!(rt; intrinsics(alloc)?.nodes.as_slice().len(), 62);
-    let store = PlainStore::new(alloc, OwnKeys::new(alloc))?;
-    let graph = store.graph()?;
-    let keys = store.into_keys();
-    match PlainStore::of(alloc, keys, graph, 7) {
-        Ok(store) => assert_eq!(rt; store.private_nodes(), 7),
-        Err(_) => return Err(Fail::from("no room")),
+    assert_eq!(rt; count_of_intrinsics(rt.alloc())?, 62);
+    assert_eq!(rt; private_nodes_of_graph(rt.alloc(), 7)?, 7);
+    Ok(())
+}
+
+/// Makes so many plain objects.
+fn made_often(store: &mut PlainStore<OwnKeys>, count: u32) -> Result<(), Refused> {
+    for _ in 0..count {
+        made(store, Kind::Plain)?;
     }
     Ok(())
 }
 
 #[test]
 fn has_room_for_nodes(rt: HostRuntime) -> Result<(), Fail> {
-    let alloc = rt.alloc();
-    let mut store = PlainStore::new(alloc, OwnKeys::new(alloc))?;
-    for _ in 0..1_048_576 {
-        made(&mut store, Kind::Plain)?;
-    }
+    let mut store = plain(rt.alloc())?;
+    made_often(&mut store, 1_048_576)?;
     assert_eq!(rt; store.private_nodes(), 1_048_576);
-    let held = store.hold(&Value::Null)?;
-    assert_eq!(rt;
-        store.make(Kind::Plain, &held),
-        Err(StoreFault::TooManyNodes)
-    );
+    let refused = Refused::Store(StoreFault::TooManyNodes);
+    assert_eq!(rt; made(&mut store, Kind::Plain), Err(refused));
     Ok(())
 }
 
 #[test]
 fn has_room_for_elements(rt: HostRuntime) -> Result<(), Fail> {
-    let alloc = rt.alloc();
-    let mut store = PlainStore::new(alloc, OwnKeys::new(alloc))?;
+    let mut store = plain(rt.alloc())?;
     let node = made(&mut store, Kind::Array)?;
     assert!(rt; filled(&mut store, node, 16_777_216)?);
     assert_eq!(rt; store.count(node), 16_777_216);
-    assert_eq!(rt; push_fault(&mut store, node)?, Some(StoreFault::TooLong));
+    let refused = Refused::Store(StoreFault::TooLong);
+    assert_eq!(rt; pushed(&mut store, node, 0), Err(refused));
     Ok(())
 }

@@ -1,31 +1,40 @@
 //! A node of as many properties as it may have.
 
 ghost use Rattle.std.specs.Prelude.{◌≡◌, ◌+◌, ◌++◌, ◌∷◌, [], length, IfOk};
-ghost use Rattle.heap_rows.specs.Wide.{many, wide};
+ghost use Rattle.heap_rows.specs.Wide.{many, property_of, wide};
 ghost use Rattle.snap_graph.specs.Lawful.{IsLawful};
 
 use super::*;
 use snap_graph::{Graph, Items, Node, Property, intrinsics_are_a_heap};
-use snap_store::{PlainStore, intrinsics};
-use snap_text::OwnKeys;
+use snap_store::{PlainStore, StoreFault, intrinsics};
+use snap_text::{NoMemory, OwnKeys};
 use spec_values::{making_keeps_heaps, properties_keep_heaps};
+use std::test::Fail;
+
+/// A property of its own for each number.
+fn property(alloc: Global, n: u32) -> Result<Property, NoMemory>
+    ensures { IfOk result (λ property. property ≡ property_of n) }
+{
+    let key = Units::of(alloc, &[(n % 65_536) as u16, (n / 65_536) as u16])?;
+    Ok(Property {
+        key,
+        value: Value::Null,
+    })
+}
 
 /// So many properties, each with a key of its own.
-fn many(alloc: Global, count: u32) -> Result<Vec<Property>, Fail>
+fn many(alloc: Global, count: u32) -> Result<Vec<Property>, NoMemory>
     ensures { IfOk result (λ list. list.items ≡ many count) }
 {
     let mut properties = Vec::new(alloc);
     for n in 0..count {
-        properties.push(Property {
-            key: Units::of(alloc, &[(n % 65_536) as u16, (n / 65_536) as u16])?,
-            value: Value::Null,
-        })?;
+        properties.push(property(alloc, n)?)?;
     }
     Ok(properties)
 }
 
 /// The intrinsics and a plain object with so many properties, which are a heap.
-fn wide(alloc: Global, count: u32) -> Result<Graph, Fail>
+fn wide(alloc: Global, count: u32) -> Result<Graph, Refused>
     ensures lawful { IfOk result (λ graph. IsLawful graph.nodes) }
     ensures count { IfOk result (λ graph. length graph.nodes ≡ 63) }
 {
@@ -46,17 +55,27 @@ fn wide(alloc: Global, count: u32) -> Result<Graph, Fail>
     })
 }
 
+/// A store of them, of whose nodes one is private.
+fn wide_store(alloc: Global, count: u32) -> Result<PlainStore<OwnKeys>, Refused>
+    ensures { IfOk result (λ store. length (⟦<PlainStore<OwnKeys> as Store>⟧.nodes store) ≡ 63) }
+{
+    let graph = wide(alloc, count)?;
+    match PlainStore::of(alloc, OwnKeys::new(alloc), graph, 1) {
+        Ok(store) => Ok(store),
+        Err(_) => Err(Refused::NoMemory),
+    }
+}
+
+/// A key of a property of 2^20, and one of another.
+const ONE_OF_THEM: &[u16] = &[65_535, 15];
+
+const ANOTHER: &[u16] = &[0, 16];
+
 #[test]
 fn has_room_for_properties(rt: HostRuntime) -> Result<(), Fail> {
-    let alloc = rt.alloc();
-    let graph = wide(alloc, 1_048_576)?;
-    let Ok(mut store) = PlainStore::of(alloc, OwnKeys::new(alloc), graph, 1) else {
-        return Err(Fail::from("no room"));
-    };
-    let one_of_them = [65_535, 15];
-    let another = [0, 16];
-    assert_eq!(rt; put_fault(alloc, &mut store, 62, &one_of_them)?, None);
-    let fault = put_fault(alloc, &mut store, 62, &another)?;
-    assert_eq!(rt; fault, Some(StoreFault::TooLong));
+    let mut store = wide_store(rt.alloc(), 1_048_576)?;
+    assert_eq!(rt; put(rt.alloc(), &mut store, 62, ONE_OF_THEM, 0), Ok(true));
+    let refused = Refused::Store(StoreFault::TooLong);
+    assert_eq!(rt; put(rt.alloc(), &mut store, 62, ANOTHER, 0), Err(refused));
     Ok(())
 }

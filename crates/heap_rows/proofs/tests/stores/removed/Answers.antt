@@ -3,4 +3,4 @@ use Rattle.spec_values.proofs.Changes.{length-changed}
 use Rattle.heap_rows.proofs.tests.stores.removed.Goals as goal
 
 pub returns : goal.returns
-returns g c = ap length (c.in_ok-remove_own.ensures.nodes c.in_ok-text.text c.in_ok-key.ensures.key) ∙ length-changed _ _ _ ∙ ap length c.key.ensures.nodes
+returns g c = ap length (c.in_ok-remove_own.ensures.nodes c.args.units.now c.in_ok-key.ensures.key) ∙ length-changed _ _ _ ∙ ap length c.key_of.ensures.nodes

@@ -3,4 +3,4 @@ use Rattle.spec_values.proofs.Changes.{length-changed}
 use Rattle.heap_rows.proofs.tests.stores.written.Goals as goal
 
 pub returns : goal.returns
-returns g c = ap length c.set_element.ensures.nodes ∙ length-changed _ _ _ ∙ ap length c.hold.ensures.nodes
+returns g c = ap length c.set_element.ensures.nodes ∙ length-changed _ _ _ ∙ ap length c.held_number.ensures.nodes

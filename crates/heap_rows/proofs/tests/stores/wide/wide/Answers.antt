@@ -1,5 +1,4 @@
-use Rattle.std.proofs.Common.{◌≡◌, ◌++◌, ◌∷◌, [], List, ap, sym, subst, ◌∙◌}
-use Rattle.snap_graph.specs.declared.node.Node.{Node}
+use Rattle.std.proofs.Common.{◌≡◌, sym, subst, ◌∙◌}
 use Rattle.snap_graph.specs.Lawful.{IsLawful}
 use Rattle.heap_rows.specs.Wide.{wide}
 use Rattle.heap_rows.proofs.Wide.{wide_is, wide_lawful}

@@ -1,0 +1,34 @@
+//! Nodes of a store: how they are made, and whether any property may be put on them.
+
+ghost use Rattle.std.specs.Prelude.{◌≡◌, ◌≤◌, ◌<◌, ℕ, IfOk, Some, false, length, true};
+ghost use Rattle.snap_graph.specs.declared.kind.Kind.TheVariants.{Array, Native};
+ghost use Rattle.snap_graph.specs.Intrinsics.{IsNative};
+ghost use Rattle.snap_graph.specs.Lawful.{IsPrototype};
+ghost use Rattle.snap_graph.specs.Values.{IsValue};
+ghost use Rattle.spec_values.specs.Access.{kind_of};
+ghost use Rattle.spec_values.specs.Operations.{is_frozen};
+
+use super::refused::Refused;
+use snap_graph::{Kind, Value};
+use snap_store::Store;
+
+/// Makes a node.
+pub(crate) fn made<S: Store>(store: &mut S, kind: Kind, prototype: &Value) -> Result<u32, Refused>
+    requires value { IsValue (length (S.nodes store.old)) prototype.now }
+    requires prototype { IsPrototype (S.nodes store.old) kind prototype.now }
+    requires native { (number : ℕ) → kind ≡ Native number → IsNative number }
+    ensures number { IfOk result (λ number. number < length (S.nodes store.new)) }
+    ensures grows { length (S.nodes store.old) ≤ length (S.nodes store.new) }
+{
+    let held = store.hold(prototype)?;
+    Ok(store.make(kind, &held)?)
+}
+
+/// Whether a node is neither frozen nor an array.
+pub(crate) fn takes_properties<S: Store>(store: &S, node: u32) -> bool
+    requires { node < length (S.nodes store.now) }
+    ensures frozen { result ≡ true → is_frozen (S.nodes store.now) node ≡ false }
+    ensures kind { result ≡ true → kind_of (S.nodes store.now) node ≡ Some Array → ⊥ }
+{
+    !store.is_frozen(node) && store.kind(node) != Kind::Array
+}

@@ -1,0 +1,41 @@
+//! Why a call of the tests' own gives nothing.
+
+use snap_store::StoreFault;
+use std::alloc::AllocFailed;
+
+/// Why a call gives nothing.
+#[derive(Clone, Copy, Debug, PartialEq, Eq)]
+pub(crate) enum Refused {
+    /// The memory that the call needed was refused.
+    NoMemory,
+    /// A store refuses it.
+    Store(StoreFault),
+    /// A row is not written as rows are, or a step of it cannot be taken.
+    Row,
+    /// What was thrown is no TypeError.
+    Error,
+}
+
+impl From<snap_base::NoMemory> for Refused {
+    fn from(_: snap_base::NoMemory) -> Refused {
+        Refused::NoMemory
+    }
+}
+
+impl From<snap_text::NoMemory> for Refused {
+    fn from(_: snap_text::NoMemory) -> Refused {
+        Refused::NoMemory
+    }
+}
+
+impl<T: Drop> From<AllocFailed<T>> for Refused {
+    fn from(_: AllocFailed<T>) -> Refused {
+        Refused::NoMemory
+    }
+}
+
+impl From<StoreFault> for Refused {
+    fn from(fault: StoreFault) -> Refused {
+        Refused::Store(fault)
+    }
+}
