@@ -10,17 +10,18 @@ mod places;
 
 use snap_ast::Tree;
 use snap_graph::ScopeKind;
-use snap_parse::parse;
+use snap_parse::{SourceFault, parse};
 use snap_scope::{ScopeFault, ScopeNeed, Scopes, resolve};
 use std::alloc::{AllocError, Global};
 
-/// The tree of a source that has one.
-fn tree_of(alloc: Global, source: &[u8]) -> Option<Tree>
-    ensures { IfSome result Lawful }
+/// The tree of a source, where it has one.
+fn tree_of(alloc: Global, source: &[u8]) -> Result<Option<Tree>, AllocError>
+    ensures { IfOk result (λ tree. IfSome tree Lawful) }
 {
     match parse(alloc, source) {
-        Ok(tree) => Some(tree),
-        Err(_) => None,
+        Ok(tree) => Ok(Some(tree)),
+        Err(SourceFault::NoMemory) => Err(AllocError),
+        Err(_) => Ok(None),
     }
 }
 

@@ -1,8 +1,8 @@
 //! What stands at a node of a tree: a variant a production.
 
-use crate::items::Items;
 use crate::operator::{AssignOperator, BinaryOperator, UnaryOperator, UpdateOperator};
 use crate::part::{Binding, ConstBinding, Named, Property};
+use snap_base::Items;
 use snap_text::Units;
 use sqlite_items::Boxed;
 

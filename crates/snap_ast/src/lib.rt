@@ -2,7 +2,6 @@
 #![tactic(auto)]
 
 mod form;
-mod items;
 mod laws;
 mod operator;
 mod part;
@@ -10,9 +9,9 @@ mod rows;
 mod tree;
 
 pub use form::Form;
-pub use items::Items;
 pub use laws::{nodes_are_lawful, nodes_have_one_parent};
 pub use operator::{AssignOperator, BinaryOperator, UnaryOperator, UpdateOperator};
 pub use part::{Binding, ConstBinding, Named, Property, PropertyKey};
 pub use rows::{worked_levels, worked_unlawful};
+pub use snap_base::Items;
 pub use tree::{Tree, TreeNode};

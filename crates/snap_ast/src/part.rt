@@ -1,6 +1,6 @@
 //! Parts of productions that are no nodes: names with their places, bindings, properties.
 
-use crate::items::Items;
+use snap_base::Items;
 use snap_text::Units;
 
 /// A name that is declared, assigned or updated, and where it stands.

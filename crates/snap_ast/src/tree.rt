@@ -1,7 +1,7 @@
 //! A syntax tree as a table of nodes.
 
 use crate::form::Form;
-use crate::items::Items;
+use snap_base::Items;
 
 /// A node of a tree: a statement or an expression.
 #[derive(Debug, Drop)]

@@ -2,7 +2,6 @@
 #![tactic(auto)]
 
 mod ending;
-mod items;
 mod kind;
 mod laws;
 mod node;
@@ -11,7 +10,6 @@ mod path;
 mod value;
 
 pub use ending::Ending;
-pub use items::Items;
 pub use kind::{Kind, ScopeKind};
 pub use laws::{
     heaps_match_themselves, indices_are_decimal, intrinsics_are_a_heap, last_index,
@@ -20,4 +18,5 @@ pub use laws::{
 pub use node::{Graph, Node};
 pub use pairing::{Pair, Pairing};
 pub use path::Path;
+pub use snap_base::Items;
 pub use value::{Property, Value};

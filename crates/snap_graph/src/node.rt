@@ -1,8 +1,8 @@
 //! Nodes and graphs of them.
 
-use crate::items::Items;
 use crate::kind::Kind;
 use crate::value::{Property, Value};
+use snap_base::Items;
 
 /// A node of a heap.
 #[derive(Debug, Drop)]

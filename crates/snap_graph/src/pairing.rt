@@ -1,6 +1,6 @@
 //! Which node of one graph stands for which node of another.
 
-use crate::items::Items;
+use snap_base::Items;
 
 /// A node of one graph and the node of another that stands for it.
 #[derive(Clone, Copy, Debug, PartialEq, Eq)]

@@ -1,6 +1,6 @@
 //! Ways through a graph.
 
-use crate::items::Items;
+use snap_base::Items;
 
 /// A way through a graph: the number of a root, and then the numbers of edges. The edges of a node are its
 /// prototype, its properties in own-key order and its elements, numbered from 0.

@@ -1,7 +1,7 @@
 //! Why a call of the tests' own gives nothing.
 
 use snap_store::StoreFault;
-use std::alloc::AllocFailed;
+use std::alloc::{AllocError, AllocFailed};
 
 /// Why a call gives nothing.
 #[derive(Clone, Copy, Debug, PartialEq, Eq)]
@@ -28,6 +28,12 @@ impl From<snap_text::NoMemory> for Refused {
     }
 }
 
+impl From<AllocError> for Refused {
+    fn from(_: AllocError) -> Refused {
+        Refused::NoMemory
+    }
+}
+
 impl<T: Drop> From<AllocFailed<T>> for Refused {
     fn from(_: AllocFailed<T>) -> Refused {
         Refused::NoMemory
@@ -36,6 +42,21 @@ impl<T: Drop> From<AllocFailed<T>> for Refused {
 
 impl From<StoreFault> for Refused {
     fn from(fault: StoreFault) -> Refused {
-        Refused::Store(fault)
+        match fault {
+            StoreFault::NoMemory => Refused::NoMemory,
+            other => Refused::Store(other),
+        }
+    }
+}
+
+/// Whether a store refuses a call for this reason. Want of memory is told.
+pub(crate) fn is_refused<T: Drop>(
+    given: Result<T, Refused>,
+    fault: StoreFault,
+) -> Result<bool, Refused> {
+    match given {
+        Ok(_) => Ok(false),
+        Err(Refused::NoMemory) => Err(Refused::NoMemory),
+        Err(why) => Ok(why == Refused::Store(fault)),
     }
 }

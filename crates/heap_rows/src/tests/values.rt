@@ -1,21 +1,22 @@
 //! Words for values.
 
-ghost use Rattle.std.specs.Prelude.{◌<◌, ℕ, IfSome};
+ghost use Rattle.std.specs.Prelude.{◌<◌, ℕ, IfOk};
 ghost use Rattle.snap_graph.specs.Values.{IsValue};
 
+use super::refused::Refused;
 use snap_graph::Value;
 use snap_text::Units;
 use std::alloc::Global;
 
-/// The value of a word, where it is one. A node is written as # with its number, which is no more than the last.
-pub(crate) fn value_of(alloc: Global, last: u32, word: &str) -> Option<Value>
-    ensures { (count : ℕ) → last < count → IfSome result (IsValue count) }
+/// The value of a word. A node is written as # with its number, which is no more than the last.
+pub(crate) fn value_of(alloc: Global, last: u32, word: &str) -> Result<Value, Refused>
+    ensures { (count : ℕ) → last < count → IfOk result (IsValue count) }
 {
     match word {
-        "undefined" => Some(Value::Undefined),
-        "null" => Some(Value::Null),
-        "true" => Some(Value::Bool(true)),
-        "false" => Some(Value::Bool(false)),
+        "undefined" => Ok(Value::Undefined),
+        "null" => Ok(Value::Null),
+        "true" => Ok(Value::Bool(true)),
+        "false" => Ok(Value::Bool(false)),
         _ => match word.strip_prefix('#') {
             Some(number) => node_of(last, number),
             None => number_or_text(alloc, word),
@@ -24,46 +25,66 @@ pub(crate) fn value_of(alloc: Global, last: u32, word: &str) -> Option<Value>
 }
 
 // The node of a number, up to the last.
-fn node_of(last: u32, word: &str) -> Option<Value>
-    ensures { (count : ℕ) → last < count → IfSome result (IsValue count) }
+fn node_of(last: u32, word: &str) -> Result<Value, Refused>
+    ensures { (count : ℕ) → last < count → IfOk result (IsValue count) }
 {
-    let number: u32 = word.parse().ok()?;
-    if number <= last {
-        Some(Value::Node(number))
-    } else {
-        None
+    match word.parse::<u32>() {
+        Ok(number) if number <= last => Ok(Value::Node(number)),
+        _ => Err(Refused::Row),
     }
 }
 
 // The value of a word that is a safe integer or a text.
-fn number_or_text(alloc: Global, word: &str) -> Option<Value>
-    ensures { (count : ℕ) → IfSome result (IsValue count) }
+fn number_or_text(alloc: Global, word: &str) -> Result<Value, Refused>
+    ensures { (count : ℕ) → IfOk result (IsValue count) }
 {
-    if let Some(rest) = word.strip_prefix('\'') {
-        return Some(Value::Text(text_of(alloc, rest.strip_suffix('\'')?)?));
-    }
-    let number: i64 = word.parse().ok()?;
-    if number.unsigned_abs() < 1 << 53 {
-        Some(Value::Int(number))
-    } else {
-        None
+    match word.strip_prefix('\'') {
+        Some(rest) => quoted(alloc, rest),
+        None => integer(word),
     }
 }
 
-// The text of these characters, unless memory is refused.
-fn text_of(alloc: Global, characters: &str) -> Option<Units> {
+// The safe integer of a word.
+fn integer(word: &str) -> Result<Value, Refused>
+    ensures { (count : ℕ) → IfOk result (IsValue count) }
+{
+    match word.parse::<i64>() {
+        Ok(number) if number.unsigned_abs() < 1 << 53 => Ok(Value::Int(number)),
+        _ => Err(Refused::Row),
+    }
+}
+
+// The text of a word, behind its first quote.
+fn quoted(alloc: Global, rest: &str) -> Result<Value, Refused>
+    ensures { (count : ℕ) → IfOk result (IsValue count) }
+{
+    match rest.strip_suffix('\'') {
+        Some(characters) => Ok(Value::Text(text_of(alloc, characters)?)),
+        None => Err(Refused::Row),
+    }
+}
+
+// The text of these characters.
+fn text_of(alloc: Global, characters: &str) -> Result<Units, Refused> {
     let mut units = Vec::new(alloc);
     for character in characters.chars() {
         let mut buffer = [0; 2];
-        units
-            .extend_from_slice(character.encode_utf16(&mut buffer))
-            .ok()?;
+        units.extend_from_slice(character.encode_utf16(&mut buffer))?;
     }
-    Some(Units::from_vec(units))
+    Ok(Units::from_vec(units))
 }
 
-/// Whether two values are one.
-pub(crate) fn is_one(value: &Value, other: &Value) -> bool {
+/// Whether a value is that of a word. It is not where the word has none.
+pub(crate) fn is_value_of(alloc: Global, value: &Value, word: &str) -> Result<bool, Refused> {
+    match value_of(alloc, u32::MAX, word) {
+        Ok(other) => Ok(is_one(value, &other)),
+        Err(Refused::Row) => Ok(false),
+        Err(why) => Err(why),
+    }
+}
+
+// Whether two values are one.
+fn is_one(value: &Value, other: &Value) -> bool {
     match (value, other) {
         (Value::Undefined, Value::Undefined) | (Value::Null, Value::Null) => true,
         (Value::Bool(truth), Value::Bool(other)) => truth == other,

@@ -66,7 +66,7 @@ fn chain_at(alloc: Global, tree: &Tree, at: usize) -> Result<String, AllocError>
 /// Whether a source is answered so.
 fn is_answered(alloc: Global, marked: &str, wanted: &str) -> Result<bool, AllocError> {
     let (source, at) = unmarked(alloc, marked)?;
-    match tree_of(alloc, source.as_bytes()) {
+    match tree_of(alloc, source.as_bytes())? {
         Some(tree) => Ok(chain_at(alloc, &tree, at)?.as_str() == wanted),
         None => Ok(false),
     }
@@ -75,10 +75,11 @@ fn is_answered(alloc: Global, marked: &str, wanted: &str) -> Result<bool, AllocE
 /// The first row that is answered otherwise.
 fn first_misanswered(alloc: Global) -> Result<Option<&'static str>, AllocError> {
     for row in ROWS.split_terminator('¶') {
-        if let Some((source, wanted)) = row.split_once('→') {
-            if !is_answered(alloc, source, wanted)? {
-                return Ok(Some(row));
-            }
+        let Some((source, wanted)) = row.split_once('→') else {
+            return Ok(Some(row));
+        };
+        if !is_answered(alloc, source, wanted)? {
+            return Ok(Some(row));
         }
     }
     Ok(None)
@@ -93,7 +94,7 @@ fn gives_chains(rt: HostRuntime) -> Result<(), Fail> {
 /// The scope of the script of a source, as text.
 fn top(alloc: Global, source: &str) -> Result<String, AllocError> {
     let mut out = String::new(alloc);
-    if let Some(tree) = tree_of(alloc, source.as_bytes()) {
+    if let Some(tree) = tree_of(alloc, source.as_bytes())? {
         if let Ok(scopes) = scopes_of(alloc, &tree)? {
             put_need(alloc, scopes.top(), &mut out)?;
         }

@@ -135,7 +135,7 @@ for (; ; ) { try { break; } finally { continue; } }¶\
 
 /// Whether a source has this early error, as text, or none where this is empty.
 fn tells(alloc: Global, source: &str, wanted: &str) -> Result<bool, AllocError> {
-    let Some(tree) = tree_of(alloc, source.as_bytes()) else {
+    let Some(tree) = tree_of(alloc, source.as_bytes())? else {
         return Ok(false);
     };
     Ok(match scopes_of(alloc, &tree)? {
@@ -154,10 +154,11 @@ fn tells_at_mark(alloc: Global, marked: &str, kind: &str) -> Result<bool, AllocE
 /// The first row whose early error is another.
 fn first_mistold(alloc: Global, rows: &'static str) -> Result<Option<&'static str>, AllocError> {
     for row in rows.split_terminator('¶') {
-        if let Some((marked, kind)) = row.split_once('→') {
-            if !tells_at_mark(alloc, marked, kind)? {
-                return Ok(Some(row));
-            }
+        let Some((marked, kind)) = row.split_once('→') else {
+            return Ok(Some(row));
+        };
+        if !tells_at_mark(alloc, marked, kind)? {
+            return Ok(Some(row));
         }
     }
     Ok(None)

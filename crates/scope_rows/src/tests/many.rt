@@ -82,7 +82,7 @@ fn found_in_script(alloc: Global, tree: &Tree) -> Result<Option<(u32, u32)>, All
 #[test]
 fn finds_one_name_among_many(rt: HostRuntime) -> Result<(), Fail> {
     let source = names(rt.alloc(), 10_000)?;
-    let tree = tree_of(rt.alloc(), source.as_bytes()).expect(&rt, "a tree");
+    let tree = tree_of(rt.alloc(), source.as_bytes())?.expect(&rt, "a tree");
     let found = found_in_script(rt.alloc(), &tree)?;
     assert_eq!(rt; found, Some((10_000, 10_000)));
     Ok(())
@@ -128,7 +128,7 @@ fn found_in_blocks(
 fn finds_names_through_a_hundred_blocks(rt: HostRuntime) -> Result<(), Fail> {
     let source = blocks(rt.alloc(), 100)?;
     let last = source.as_str().find("let n99").unwrap_or(0);
-    let tree = tree_of(rt.alloc(), source.as_bytes()).expect(&rt, "a tree");
+    let tree = tree_of(rt.alloc(), source.as_bytes())?.expect(&rt, "a tree");
     let found = found_in_blocks(rt.alloc(), &tree, last)?;
     assert_eq!(rt; found, Some((101, 100)));
     Ok(())

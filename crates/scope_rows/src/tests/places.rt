@@ -126,7 +126,7 @@ fn is_placed(alloc: Global, marked: &str, wanted: &str) -> Result<bool, AllocErr
         return Ok(false);
     };
     let (source, at) = unmarked(alloc, marked)?;
-    match tree_of(alloc, source.as_bytes()) {
+    match tree_of(alloc, source.as_bytes())? {
         Some(tree) => Ok(place_at(alloc, &tree, at, name)?.as_str() == wanted),
         None => Ok(false),
     }
@@ -135,10 +135,11 @@ fn is_placed(alloc: Global, marked: &str, wanted: &str) -> Result<bool, AllocErr
 /// The first row whose name is found elsewhere.
 fn first_misplaced(alloc: Global) -> Result<Option<&'static str>, AllocError> {
     for row in ROWS.split_terminator('¶') {
-        if let Some((source, wanted)) = row.split_once('→') {
-            if !is_placed(alloc, source, wanted)? {
-                return Ok(Some(row));
-            }
+        let Some((source, wanted)) = row.split_once('→') else {
+            return Ok(Some(row));
+        };
+        if !is_placed(alloc, source, wanted)? {
+            return Ok(Some(row));
         }
     }
     Ok(None)

@@ -75,9 +75,7 @@ fn object<S: Store>(alloc: Global, store: &mut S, last: u32, row: &str) -> Resul
     let Some((kind, word)) = row.split_once(' ') else {
         return Err(Refused::Row);
     };
-    let Some(prototype) = value_of(alloc, last, word) else {
-        return Err(Refused::Row);
-    };
+    let prototype = value_of(alloc, last, word)?;
     if !may_be_prototype(store, last, &prototype) {
         return Err(Refused::Row);
     }

@@ -39,15 +39,9 @@ pub(crate) fn step<S: Store>(
     words: &[&str],
 ) -> Result<Outcome, Refused> {
     let last = last_node(store)?;
-    let Some(base) = value_of(alloc, last, word(words, 1)) else {
-        return Err(Refused::Row);
-    };
-    let Some(key) = value_of(alloc, last, word(words, 2)) else {
-        return Err(Refused::Row);
-    };
-    let Some(value) = value_of(alloc, last, word(words, 3)) else {
-        return Err(Refused::Row);
-    };
+    let base = value_of(alloc, last, word(words, 1))?;
+    let key = value_of(alloc, last, word(words, 2))?;
+    let value = value_of(alloc, last, word(words, 3))?;
     match word(words, 0) {
         "get" => read(alloc, store, &base, &key),
         "set" => written(alloc, store, &base, &key, &value),

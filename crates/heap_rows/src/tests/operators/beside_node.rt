@@ -10,10 +10,13 @@
 //!   `NotInProfile` (`NOT_IN_PROFILE`).
 
 use super::samples::{binary_op, unary_op, value_of};
-use crate::tests::values::is_one;
+use crate::tests::refused::Refused;
+use crate::tests::values::is_value_of;
 use snap_base::Stop;
+use snap_graph::Value;
 use snap_oper::{OperFault, binary, unary};
 use std::alloc::Global;
+use std::test::Fail;
 
 /// Node.js gives these answers.
 const SAME: &str = "\
@@ -700,49 +703,80 @@ null >= undefined = NotInProfile
 ~ '1' = NotInProfile
 ~ #70 = NotInProfile
 ";
-// Whether the operator of a row gives its answer, or `None` where it is no row or memory was refused.
-fn is_answered(alloc: Global, row: &str) -> Option<bool> {
-    let (question, answer) = row.split_once(" = ")?;
-    let (first, rest) = question.split_once(' ')?;
-    let given = match rest.split_once(' ') {
-        Some((sign, right)) => binary(
-            alloc,
-            binary_op(sign)?,
-            &value_of(alloc, first)?,
-            &value_of(alloc, right)?,
-        ),
-        None => unary(unary_op(first)?, &value_of(alloc, rest)?),
-    };
+
+// Whether what an operator gives is the answer of a row.
+fn is_given(alloc: Global, given: Result<Value, OperFault>, answer: &str) -> Result<bool, Refused> {
     match given {
-        Ok(value) => Some(is_one(&value, &value_of(alloc, answer)?)),
-        Err(OperFault::Stopped(Stop::NotInProfile)) => Some(answer == "NotInProfile"),
-        Err(OperFault::Stopped(Stop::NotSafeInteger)) => Some(answer == "NotSafeInteger"),
-        Err(_) => None,
+        Ok(value) => is_value_of(alloc, &value, answer),
+        Err(OperFault::Stopped(Stop::NotInProfile)) => Ok(answer == "NotInProfile"),
+        Err(OperFault::Stopped(Stop::NotSafeInteger)) => Ok(answer == "NotSafeInteger"),
+        Err(OperFault::Stopped(_)) => Ok(false),
+        Err(OperFault::NoMemory) => Err(Refused::NoMemory),
+    }
+}
+
+// Whether an operator between two values gives an answer.
+fn joins(
+    alloc: Global,
+    left: &str,
+    sign: &str,
+    right: &str,
+    answer: &str,
+) -> Result<bool, Refused> {
+    let Some(op) = binary_op(sign) else {
+        return Err(Refused::Row);
+    };
+    let left = value_of(alloc, left)?;
+    let right = value_of(alloc, right)?;
+    is_given(alloc, binary(alloc, op, &left, &right), answer)
+}
+
+// Whether an operator in front of a value gives an answer.
+fn changes(alloc: Global, sign: &str, word: &str, answer: &str) -> Result<bool, Refused> {
+    let Some(op) = unary_op(sign) else {
+        return Err(Refused::Row);
+    };
+    let value = value_of(alloc, word)?;
+    is_given(alloc, unary(op, &value), answer)
+}
+
+// Whether the operator of a row gives its answer.
+fn is_answered(alloc: Global, row: &str) -> Result<bool, Refused> {
+    let Some((question, answer)) = row.split_once(" = ") else {
+        return Err(Refused::Row);
+    };
+    let Some((first, rest)) = question.split_once(' ') else {
+        return Err(Refused::Row);
+    };
+    match rest.split_once(' ') {
+        Some((sign, right)) => joins(alloc, first, sign, right, answer),
+        None => changes(alloc, first, rest, answer),
     }
 }
 
 // The first row of a table that is not right.
-fn first_wrong_of(alloc: Global, table: &'static str) -> Option<&'static str> {
+fn first_wrong_of(alloc: Global, table: &'static str) -> Result<Option<&'static str>, Refused> {
     for row in table.lines() {
-        if is_answered(alloc, row) != Some(true) {
-            return Some(row);
+        if !is_answered(alloc, row)? {
+            return Ok(Some(row));
         }
     }
-    None
+    Ok(None)
 }
 
 // The first row that is not right.
-fn first_wrong(alloc: Global) -> Option<&'static str> {
+fn first_wrong(alloc: Global) -> Result<Option<&'static str>, Refused> {
     for table in [SAME, MINUS_ZERO, NOT_SAFE, NOT_IN_PROFILE] {
-        let wrong = first_wrong_of(alloc, table);
+        let wrong = first_wrong_of(alloc, table)?;
         if wrong.is_some() {
-            return wrong;
+            return Ok(wrong);
         }
     }
-    None
+    Ok(None)
 }
 
 #[test]
-fn gives_what_node_gives(rt: HostRuntime) {
-    assert_eq!(rt; first_wrong(rt.alloc()), None);
+fn gives_what_node_gives(rt: HostRuntime) -> Result<(), Fail> {
+    assert_eq!(rt; first_wrong(rt.alloc())?, None);
+    Ok(())
 }

@@ -11,13 +11,14 @@ use std::alloc::Global;
 use std::test::Fail;
 
 // Whether `+` stops at these values since their text is too long.
-fn is_too_long(alloc: Global, left: &Value, right: &Value) -> bool
+fn is_too_long(alloc: Global, left: &Value, right: &Value) -> Result<bool, OperFault>
     requires left { IsOperand left.now }
     requires right { IsOperand right.now }
 {
     match binary(alloc, BinaryOp::Add, left, right) {
-        Ok(_) => false,
-        Err(fault) => fault == OperFault::Stopped(Stop::TooLong),
+        Ok(_) => Ok(false),
+        Err(OperFault::Stopped(why)) => Ok(why == Stop::TooLong),
+        Err(OperFault::NoMemory) => Err(OperFault::NoMemory),
     }
 }
 
@@ -46,8 +47,8 @@ fn joins_up_to_the_limit(rt: HostRuntime) -> Result<(), Fail> {
     let longest = longest(rt.alloc())?;
     let most = Some(MOST_ITEMS as usize);
     assert_eq!(rt; joined_with_none(rt.alloc(), &longest)?, most);
-    assert!(rt; is_too_long(rt.alloc(), &longest, &Value::Int(0)));
-    assert!(rt; is_too_long(rt.alloc(), &Value::Null, &longest));
-    assert!(rt; is_too_long(rt.alloc(), &longest, &longest));
+    assert!(rt; is_too_long(rt.alloc(), &longest, &Value::Int(0))?);
+    assert!(rt; is_too_long(rt.alloc(), &Value::Null, &longest)?);
+    assert!(rt; is_too_long(rt.alloc(), &longest, &longest)?);
     Ok(())
 }

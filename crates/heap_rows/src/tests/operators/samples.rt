@@ -1,16 +1,17 @@
 //! Values and operators as a script writes them.
 
-ghost use Rattle.std.specs.Prelude.{IfSome};
+ghost use Rattle.std.specs.Prelude.{IfOk};
 ghost use Rattle.snap_oper.specs.Given.{IsOperand};
 
+use crate::tests::refused::Refused;
 use crate::tests::values;
 use snap_graph::Value;
 use snap_oper::{BinaryOp, UnaryOp, values_are_operands};
 use std::alloc::Global;
 
-/// The value of a word, where it is one. A node is written as # with its number.
-pub(crate) fn value_of(alloc: Global, word: &str) -> Option<Value>
-    ensures { IfSome result IsOperand }
+/// The value of a word. A node is written as # with its number.
+pub(crate) fn value_of(alloc: Global, word: &str) -> Result<Value, Refused>
+    ensures { IfOk result IsOperand }
 {
     values_are_operands();
     values::value_of(alloc, u32::MAX, word)

@@ -5,6 +5,7 @@ ghost use Rattle.heap_rows.specs.Wide.{many, property_of, wide};
 ghost use Rattle.snap_graph.specs.Lawful.{IsLawful};
 
 use super::*;
+use crate::tests::refused::is_refused;
 use snap_graph::{Graph, Items, Node, Property, intrinsics_are_a_heap};
 use snap_store::{PlainStore, StoreFault, intrinsics};
 use snap_text::{NoMemory, OwnKeys};
@@ -74,8 +75,8 @@ const ANOTHER: &[u16] = &[0, 16];
 #[test]
 fn has_room_for_properties(rt: HostRuntime) -> Result<(), Fail> {
     let mut store = wide_store(rt.alloc(), 1_048_576)?;
-    assert_eq!(rt; put(rt.alloc(), &mut store, 62, ONE_OF_THEM, 0), Ok(true));
-    let refused = Refused::Store(StoreFault::TooLong);
-    assert_eq!(rt; put(rt.alloc(), &mut store, 62, ANOTHER, 0), Err(refused));
+    assert!(rt; put(rt.alloc(), &mut store, 62, ONE_OF_THEM, 0)?);
+    let another = put(rt.alloc(), &mut store, 62, ANOTHER, 0);
+    assert!(rt; is_refused(another, StoreFault::TooLong)?);
     Ok(())
 }

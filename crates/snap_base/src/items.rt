@@ -36,7 +36,7 @@ impl<T> Items<T> {
         self.items.as_slice()
     }
 
-    /// The items, which takes no memory.
+    /// The items, given back. It takes no memory.
     pub fn into_vec(self) -> Vec<T>
         ensures { result.items ≡ self }
     {
