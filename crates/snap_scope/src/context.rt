@@ -10,7 +10,7 @@ use snap_ast::Form;
 #[derive(Clone, Copy, Debug)]
 pub(crate) struct Context {
     /// The number of its chain of scopes.
-    pub chain: usize,
+    pub chain: u32,
     /// Whether it stands in a loop of its function.
     pub in_loop: bool,
     /// Whether it stands in a function.
@@ -21,9 +21,9 @@ pub(crate) struct Context {
 #[derive(Clone, Copy, Debug)]
 pub(crate) struct NodeEntry {
     /// The chain round it.
-    pub chain: usize,
+    pub chain: u32,
     /// The scope that it makes.
-    pub own: Option<usize>,
+    pub own: Option<u32>,
 }
 
 /// Whether a node is a function.
@@ -61,7 +61,7 @@ fn holds(form: &Form, child: u32) -> bool
     }
 }
 
-fn child_chain(form: &Form, chain: usize, own: Option<usize>, child: u32) -> usize
+fn child_chain(form: &Form, chain: u32, own: Option<u32>, child: u32) -> u32
     ensures { result ≡ chain_of_child form.now chain own child }
 {
     match own {
@@ -71,12 +71,7 @@ fn child_chain(form: &Form, chain: usize, own: Option<usize>, child: u32) -> usi
 }
 
 /// What a child of a node has from it.
-pub(crate) fn child_context(
-    form: &Form,
-    context: Context,
-    own: Option<usize>,
-    child: u32,
-) -> Context
+pub(crate) fn child_context(form: &Form, context: Context, own: Option<u32>, child: u32) -> Context
     ensures { result ≡ child_context form.now context own child }
 {
     Context {

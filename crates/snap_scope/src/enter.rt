@@ -99,11 +99,11 @@ pub(crate) fn own_slots<'t>(
 /// Adds the scope of a node inside a chain, where it has slots, and gives its number.
 pub(crate) fn enter(
     alloc: Global,
-    chain: usize,
+    chain: u32,
     kind: ScopeKind,
     slots: Option<Slots>,
     chains: &mut Chains,
-) -> Result<Option<usize>, NoMemory>
+) -> Result<Option<u32>, NoMemory>
     requires within { chain < length chains.old.chains }
     requires few { length (chain_in chains.old chain) < 2 ^ 32 }
     ensures { IfOk result (λ own. Enters chain kind (slots_in slots) own chains.old chains.new) }
@@ -114,15 +114,18 @@ pub(crate) fn enter(
     if slots.len() == 0 {
         return Ok(None);
     }
-    let own = chains.add(alloc, chain, kind, slots)?;
-    Ok(Some(own))
+    let own = chains.add(alloc, chain as usize, kind, slots)?;
+    match u32::try_from(own) {
+        Ok(own) => Ok(Some(own)),
+        Err(_) => Err(NoMemory),
+    }
 }
 
 /// Gives the children of a node what they have from it.
 pub(crate) fn spread(
     form: &Form,
     context: Context,
-    own: Option<usize>,
+    own: Option<u32>,
     children: &[u32],
     contexts: &mut Vec<Context>,
 )

@@ -53,7 +53,7 @@ impl Scopes {
         ensures { result.now ≡ map need (node_scopes self.now node).round }
     {
         let entry = self.nodes[node as usize];
-        self.chains.needs(entry.chain)
+        self.chains.needs(entry.chain as usize)
     }
 
     /// The slot of a name in the innermost scope round a node that holds it, or nothing where none does.
@@ -62,7 +62,7 @@ impl Scopes {
         ensures { result ≡ place_of (node_scopes self.now node).round name.now }
     {
         let entry = self.nodes[node as usize];
-        self.chains.place(entry.chain, name)
+        self.chains.place(entry.chain as usize, name)
     }
 
     /// The scope that a node makes itself, or nothing where it makes none.
@@ -71,7 +71,7 @@ impl Scopes {
         ensures { result ≡ option_map need (node_scopes self.now node).own }
     {
         match self.nodes[node as usize].own {
-            Some(own) => Some(self.chains.need(own)),
+            Some(own) => Some(self.chains.need(own as usize)),
             None => None,
         }
     }

@@ -66,7 +66,7 @@ fn check<'t>(
 fn spread_all(
     form: &Form,
     context: Context,
-    own: Option<usize>,
+    own: Option<u32>,
     children: &mut Vec<u32>,
     contexts: &mut Vec<Context>,
 ) -> Result<(), NoMemory>

@@ -464,6 +464,17 @@ const TREE_ALONE: &str = "\
 -function f() { break }¶\
 ";
 
+/// Whether a row is judged so: whether its source has a tree, where Node.js takes it and where it refuses it.
+fn is_judged(alloc: Global, row: &str, taken: bool, refused: bool) -> Result<bool, AllocError> {
+    if let Some(source) = row.strip_prefix('+') {
+        return Ok(has_tree(alloc, source)? == taken);
+    }
+    match row.strip_prefix('-') {
+        Some(source) => Ok(has_tree(alloc, source)? == refused),
+        None => Ok(false),
+    }
+}
+
 /// The first row that is judged otherwise, where the sources that Node.js takes are to have a tree or not, and those
 /// that it refuses.
 fn first_misjudged(
@@ -473,14 +484,8 @@ fn first_misjudged(
     refused: bool,
 ) -> Result<Option<&'static str>, AllocError> {
     for row in rows.split_terminator('¶') {
-        if let Some(source) = row.strip_prefix('+') {
-            if has_tree(alloc, source)? != taken {
-                return Ok(Some(row));
-            }
-        } else if let Some(source) = row.strip_prefix('-') {
-            if has_tree(alloc, source)? != refused {
-                return Ok(Some(row));
-            }
+        if !is_judged(alloc, row, taken, refused)? {
+            return Ok(Some(row));
         }
     }
     Ok(None)

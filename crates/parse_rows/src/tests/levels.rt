@@ -143,7 +143,10 @@ fn is_counted(
     wanted: Result<usize, SourceFault>,
 ) -> Result<bool, AllocError> {
     let source = nested(alloc, ";", "", "", count)?;
-    Ok(nodes_of(alloc, source.as_str()) == wanted)
+    match nodes_of(alloc, source.as_str()) {
+        Err(SourceFault::NoMemory) => Err(AllocError),
+        answer => Ok(answer == wanted),
+    }
 }
 
 #[test]

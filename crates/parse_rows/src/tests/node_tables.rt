@@ -118,10 +118,11 @@ fn first_misanswered(
     rows: &'static str,
 ) -> Result<Option<&'static str>, AllocError> {
     for row in rows.split_terminator('¶') {
-        if let Some((source, wanted)) = row.split_once('→') {
-            if answer(alloc, source.as_bytes())?.as_str() != wanted {
-                return Ok(Some(row));
-            }
+        let Some((source, wanted)) = row.split_once('→') else {
+            return Ok(Some(row));
+        };
+        if answer(alloc, source.as_bytes())?.as_str() != wanted {
+            return Ok(Some(row));
         }
     }
     Ok(None)

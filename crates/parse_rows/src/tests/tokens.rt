@@ -202,11 +202,12 @@ fn is_shown(alloc: Global, source: &[u8], wanted: &str) -> Result<bool, AllocErr
 
 /// The first row whose tokens are others.
 fn first_misshown(alloc: Global) -> Result<Option<&'static str>, AllocError> {
-    for row in CASES.split('¶') {
-        if let Some((source, wanted)) = row.split_once('→') {
-            if !is_shown(alloc, source.as_bytes(), wanted)? {
-                return Ok(Some(row));
-            }
+    for row in CASES.split_terminator('¶') {
+        let Some((source, wanted)) = row.split_once('→') else {
+            return Ok(Some(row));
+        };
+        if !is_shown(alloc, source.as_bytes(), wanted)? {
+            return Ok(Some(row));
         }
     }
     Ok(None)
@@ -279,6 +280,7 @@ fn count(alloc: Global, front: &[u8], byte: u8, end: &[u8]) -> Result<Option<usi
     let source = long(alloc, front, byte, end)?;
     match tokens(alloc, source.as_slice()) {
         Ok(list) => Ok(Some(list.len())),
+        Err(LexFault::NoMemory) => Err(AllocError),
         Err(_) => Ok(None),
     }
 }
