@@ -6,10 +6,10 @@ Usage, from the root of the repository, once `rt ci` or `rt all verdict` has bui
     python3 bench/scopes.py
 
 The script has 0.5 and 1 MiB, a tree without early errors, and is not thin: `snap` reads its tree, finds its
-scopes and ends with `not built`. The same script that declares at its end a name twice is refused for that once
-its whole tree is read and numbered, since the names of the script are looked at before any other scope. Both
-are run in turn. The least seconds of each are printed, the ratio of the two (bar: at most 1.5), and by what the
-time grows as the script doubles.
+scopes and the place of each name that a node reads, writes or declares, and ends with `not built`. The same
+script that declares at its end a name twice is refused for that once its whole tree is read and numbered, since
+the names of the script are looked at before any other scope. Both are run in turn. The least seconds of each are
+printed, the ratio of the two (bar: at most 1.5), and by what the time grows as the script doubles.
 """
 
 import os

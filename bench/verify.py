@@ -5,7 +5,7 @@ Usage, from the root of the repository, once `rt ci` or `rt all verdict` has bui
 
     python3 bench/verify.py
 
-It makes the blob in a temporary folder, runs both programs five times in turn, and prints the
+It makes the blob in a temporary folder, runs both programs fifteen times in turn, and prints the
 median of each, their ratio, and the most memory that `snap` held at one moment.
 """
 
@@ -18,7 +18,7 @@ import sys
 import tempfile
 import time
 
-RUNS = 5
+RUNS = 15
 STRINGS = 2_000_000
 ROOT = os.path.dirname(os.path.dirname(os.path.abspath(__file__)))
 SNAP = os.path.join(ROOT, "crates", "snap", "out", "snap")

@@ -6,4 +6,5 @@ mod objects;
 mod operators;
 mod refused;
 mod stores;
+mod told_keys;
 mod values;

@@ -6,6 +6,7 @@ ghost use Rattle.snap_ast.specs.Lawful.{Lawful};
 mod chains;
 mod faults;
 mod many;
+mod names;
 mod places;
 
 use snap_ast::Tree;

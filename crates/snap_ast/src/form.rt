@@ -216,8 +216,8 @@ pub enum Form {
     Member {
         /// The expression before the dot.
         object: u32,
-        /// The bytes of the word behind it.
-        key: Items<u8>,
+        /// The word behind it.
+        key: Units,
     },
     /// `Call [ Expr ]`
     Index {
@@ -242,8 +242,8 @@ pub enum Form {
     },
     /// A name that is read.
     Name {
-        /// The bytes of the name.
-        name: Items<u8>,
+        /// The name.
+        name: Units,
     },
     /// A number, at most 9007199254740991.
     Number {

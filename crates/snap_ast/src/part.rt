@@ -6,8 +6,8 @@ use snap_text::Units;
 /// A name that is declared, assigned or updated, and where it stands.
 #[derive(Debug, Drop)]
 pub struct Named {
-    /// The bytes of the name.
-    pub name: Items<u8>,
+    /// The name.
+    pub name: Units,
     /// The place of its first byte in the source.
     pub at: u32,
 }
@@ -44,7 +44,7 @@ pub enum ConstBinding {
 #[derive(Debug, Drop)]
 pub enum PropertyKey {
     /// A name or a reserved word, also that of a shorthand property.
-    Word(Items<u8>),
+    Word(Units),
     /// A text.
     Text(Units),
     /// A number, at most 9007199254740991.

@@ -10,6 +10,8 @@ mod stop;
 
 pub use hash::hash_units;
 pub use items::Items;
-pub use limits::{Limits, MOST_ITEMS, MOST_PRIVATE_NODES, MOST_PROPERTIES};
+pub use limits::{
+    Limits, MOST_BLOB_BYTES, MOST_ITEMS, MOST_PRIVATE_NODES, MOST_PROPERTIES, MOST_SOURCE_BYTES,
+};
 pub use no_memory::NoMemory;
 pub use stop::Stop;

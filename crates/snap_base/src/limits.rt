@@ -1,6 +1,12 @@
-//! How far a run may go, and how much it may hold.
+//! How far a run may go, and how much a source, a blob and a run may hold.
 
-/// The most code units of a text, elements of an array, records of a Map or Set, removed ones included,
+/// The most bytes of a source.
+pub const MOST_SOURCE_BYTES: u32 = 1_048_576;
+
+/// The most bytes of a blob.
+pub const MOST_BLOB_BYTES: u32 = 67_108_864;
+
+/// The most code units of a text, a word of the command line too, elements of an array, records of a Map or Set, removed ones included,
 /// and bytes that one isolate or one context of a build prints.
 pub const MOST_ITEMS: u32 = 16_777_216;
 

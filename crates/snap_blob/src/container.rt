@@ -6,11 +6,9 @@ ghost use Rattle.spec_format.specs.Container.{HasDigest, HasSectionEnds, contain
 
 use crate::field::{fault, number32, part, same};
 use sha2::{Digest, Sha256};
+use snap_base::MOST_BLOB_BYTES;
 use spec_format::{BlobFault, BlobKind};
 use std::marker::Model;
-
-/// The most bytes that a blob has.
-pub const BLOB_LIMIT: u32 = 67_108_864;
 
 const MAGIC: [u8; 8] = *b"SNAPBLOB";
 
@@ -56,7 +54,7 @@ impl<'a> Container<'a> {
     pub fn section(&self, k: u32) -> &'a [u8]
         requires { k < section_count self.now }
         ensures bytes { result.now ≡ section self.now k }
-        ensures within { section_start self.now k + length result.now ≤ 67108864 }
+        ensures within { section_start self.now k + length result.now ≤ MOST_BLOB_BYTES }
     {
         let start = self.start(k) as usize;
         let end = number32(self.bytes, 52 + 4 * k as usize) as usize;
@@ -79,8 +77,8 @@ impl<'a> Container<'a> {
 fn check_header(bytes: &[u8]) -> Result<(), BlobFault>
     ensures { Passes (header_checks bytes.now) result }
 {
-    if bytes.len() > BLOB_LIMIT as usize {
-        return Err(fault(BlobKind::TooLong, BLOB_LIMIT as usize));
+    if bytes.len() > MOST_BLOB_BYTES as usize {
+        return Err(fault(BlobKind::TooLong, MOST_BLOB_BYTES as usize));
     }
     if bytes.len() < 52 {
         return Err(fault(BlobKind::TooShort, bytes.len()));

@@ -14,7 +14,8 @@ mod startups;
 mod strings;
 mod visits;
 
-pub use container::{BLOB_LIMIT, Container};
+pub use container::Container;
+pub use put::put_number;
 pub use ro_strings::{RoStrings, node_count};
 pub use sealing::{SealFault, seal};
 pub use shapes::are_lawful;

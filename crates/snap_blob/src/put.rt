@@ -1,6 +1,6 @@
 //! Numbers, written behind some bytes.
 
-ghost use Rattle.std.specs.Prelude.{◌≡◌, ◌++◌, OnOk};
+ghost use Rattle.std.specs.Prelude.{◌≡◌, ◌++◌, OnOk, OnErr};
 ghost use Rattle.spec_format.specs.Number.{spelled32, spelled64};
 ghost use Rattle.spec_format.specs.Varint.{varint};
 
@@ -26,9 +26,10 @@ pub(crate) fn put64(out: &mut Vec<u8>, n: u64) -> Result<(), AllocError>
     Ok(())
 }
 
-/// Appends the one spelling of a number.
-pub(crate) fn put_number(out: &mut Vec<u8>, n: u64) -> Result<(), NoMemory>
-    ensures { OnOk result (out.new.items ≡ out.old.items ++ varint n) }
+/// Appends the one spelling of a number. Where memory runs out, the bytes are as they were.
+pub fn put_number(out: &mut Vec<u8>, n: u64) -> Result<(), NoMemory>
+    ensures ok { OnOk result (out.new.items ≡ out.old.items ++ varint n) }
+    ensures err { OnErr result (out.new.items ≡ out.old.items) }
 {
     match put_varint(out, n) {
         Ok(()) => Ok(()),

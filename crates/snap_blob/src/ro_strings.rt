@@ -6,12 +6,10 @@ ghost use Rattle.spec_format.specs.Strings.{IsBelow, count_checks, end_before, f
 ghost use Rattle.snap_blob.specs.Ordered.{AllLie, IsBefore};
 
 use crate::field::{fault, number32, part};
+use snap_base::MOST_ITEMS;
 use snap_text::StrView;
 use spec_format::{BlobFault, BlobKind};
 use std::cmp::Ordering;
-
-/// The most units that a string has.
-const STRING_LIMIT: u32 = 16_777_216;
 
 /// The strings of a section whose list of strings has no fault. It is seen as the section's bytes.
 #[derive(Clone, Copy)]
@@ -48,11 +46,11 @@ impl<'a> RoStrings<'a> {
         number32(self.section, 0)
     }
 
-    /// A string, one byte a unit. It has at most 16,777,216 units.
+    /// A string, one byte a unit. It has at most `MOST_ITEMS` units.
     pub fn string(&self, i: u32) -> StrView<'a>
         requires { i < string_count (section_of self.now) }
         ensures units { units result ≡ string (section_of self.now) i }
-        ensures short { length (units result) ≤ 16777216 }
+        ensures short { length (units result) ≤ MOST_ITEMS }
     {
         let i = i as usize;
         StrView::One(part(self.section, self.first_byte(i), self.first_byte(i + 1)))
@@ -138,7 +136,7 @@ fn string_end(section: &[u8], base: usize, i: usize, before: u32) -> Result<u32,
         return Err(fault(BlobKind::Truncated, base + entry));
     }
     let end = number32(section, entry);
-    if end < before || STRING_LIMIT < end - before {
+    if end < before || MOST_ITEMS < end - before {
         return Err(fault(BlobKind::BadString, base + entry));
     }
     Ok(end)

@@ -7,15 +7,15 @@ ghost use Rattle.spec_format.specs.Container.{container, end_entry, magic, paylo
 ghost use Rattle.spec_format.specs.Number.{ends_from, spelled32};
 ghost use Rattle.snap_blob.specs.Sections.{lists_of, sealed_length, zeros};
 
-use crate::container::BLOB_LIMIT;
 use crate::put::put32;
 use sha2::{Digest, Sha256};
+use snap_base::MOST_BLOB_BYTES;
 use std::alloc::{AllocError, Global};
 
 /// Why sections were not sealed.
 #[derive(Clone, Copy, Debug, PartialEq, Eq)]
 pub enum SealFault {
-    /// The blob would have more than 67,108,864 bytes.
+    /// The blob would have more than `MOST_BLOB_BYTES`.
     TooLong,
     /// Memory ran out.
     NoMemory,
@@ -27,9 +27,9 @@ pub fn seal(alloc: Global, format: u32, sections: &[Vec<u8>]) -> Result<Vec<u8>,
     requires least { 4 ≤ length sections.now }
     requires most { length sections.now ≤ 19 }
     ensures ok { IfOk result (λ blob. blob.items ≡ container format (lists_of sections.now)) }
-    ensures fits { IfOk result (λ blob. length blob.items ≤ 67108864) }
-    ensures too_long { IsErrOf result SealFault.TooLong → 67108864 < length (container format (lists_of sections.now)) }
-    ensures always_too_long { 67108864 < length (container format (lists_of sections.now)) → IsErrOf result SealFault.TooLong }
+    ensures fits { IfOk result (λ blob. length blob.items ≤ MOST_BLOB_BYTES) }
+    ensures too_long { IsErrOf result SealFault.TooLong → MOST_BLOB_BYTES < length (container format (lists_of sections.now)) }
+    ensures always_too_long { MOST_BLOB_BYTES < length (container format (lists_of sections.now)) → IsErrOf result SealFault.TooLong }
 {
     let len = blob_length(sections)?;
     match write_blob(alloc, format, len, sections) {
@@ -41,13 +41,13 @@ pub fn seal(alloc: Global, format: u32, sections: &[Vec<u8>]) -> Result<Vec<u8>,
 // How long the blob is. The fault is `TooLong` where it would be.
 fn blob_length(sections: &[Vec<u8>]) -> Result<u32, SealFault>
     requires { length sections.now ≤ 19 }
-    ensures ok { IfOk result (λ n. (n ≤ 67108864) × (n ≡ sealed_length (lists_of sections.now))) }
-    ensures err { OnErr result (67108864 < sealed_length (lists_of sections.now)) }
+    ensures ok { IfOk result (λ n. (n ≤ MOST_BLOB_BYTES) × (n ≡ sealed_length (lists_of sections.now))) }
+    ensures err { OnErr result (MOST_BLOB_BYTES < sealed_length (lists_of sections.now)) }
     ensures only { IsOkUnless result SealFault.TooLong }
 {
     let mut total = 52 + 4 * sections.len();
     for section in sections {
-        if section.len() > BLOB_LIMIT as usize - total {
+        if section.len() > MOST_BLOB_BYTES as usize - total {
             return Err(SealFault::TooLong);
         }
         total += section.len();
@@ -63,10 +63,10 @@ fn write_blob(
     sections: &[Vec<u8>],
 ) -> Result<Vec<u8>, AllocError>
     requires count { length sections.now ≤ 19 }
-    requires short { len ≤ 67108864 }
+    requires short { len ≤ MOST_BLOB_BYTES }
     requires len { len ≡ sealed_length (lists_of sections.now) }
     ensures bytes { IfOk result (λ blob. blob.items ≡ container format (lists_of sections.now)) }
-    ensures fits { IfOk result (λ blob. length blob.items ≤ 67108864) }
+    ensures fits { IfOk result (λ blob. length blob.items ≤ MOST_BLOB_BYTES) }
 {
     let mut blob = Vec::with_capacity(alloc, len as usize)?;
     put_header(&mut blob, format, len)?;
@@ -88,7 +88,7 @@ fn put_header(blob: &mut Vec<u8>, format: u32, len: u32) -> Result<(), AllocErro
 
 fn put_payload(blob: &mut Vec<u8>, sections: &[Vec<u8>]) -> Result<(), AllocError>
     requires count { length sections.now ≤ 19 }
-    requires fits { sealed_length (lists_of sections.now) ≤ 67108864 }
+    requires fits { sealed_length (lists_of sections.now) ≤ MOST_BLOB_BYTES }
     ensures { OnOk result (blob.new.items ≡ blob.old.items ++ payload (lists_of sections.now)) }
 {
     put32(blob, sections.len() as u32)?;
@@ -100,7 +100,7 @@ fn put_payload(blob: &mut Vec<u8>, sections: &[Vec<u8>]) -> Result<(), AllocErro
 // Where each section ends.
 fn put_section_ends(blob: &mut Vec<u8>, sections: &[Vec<u8>]) -> Result<(), AllocError>
     requires count { length sections.now ≤ 19 }
-    requires fits { sealed_length (lists_of sections.now) ≤ 67108864 }
+    requires fits { sealed_length (lists_of sections.now) ≤ MOST_BLOB_BYTES }
     ensures { OnOk result (blob.new.items
         ≡ blob.old.items ++ flat_map spelled32 (ends_from (end_entry (length sections.now)) (lists_of sections.now))) }
 {

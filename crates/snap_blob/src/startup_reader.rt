@@ -10,7 +10,7 @@ ghost use Rattle.snap_blob.specs.Steps.{front_bytes, pair_of, HasNoStartup};
 use crate::startups::ShapeStep;
 use byteorder::{ByteOrder, LittleEndian};
 use snap_base::NoMemory;
-use snap_bytes::Cursor;
+use snap_bytes::{Cursor, read_number};
 use std::alloc::Global;
 
 /// What a startup section of one script and no functions holds.
@@ -138,16 +138,4 @@ fn read_short(cursor: &mut Cursor) -> Option<u32>
         return None;
     }
     Some(n as u32)
-}
-
-// The number that is spelled at the front.
-fn read_number(cursor: &mut Cursor) -> Option<u64>
-    ensures some { IfSome result (λ n. cursor.old.left ≡ varint n ++ cursor.new.left) }
-    ensures only { (n : ℕ) (rest : List ℕ) → n < 2 ^ 64
-        → cursor.old.left ≡ varint n ++ rest → (result ≡ Some n) × (cursor.new.left ≡ rest) }
-{
-    match cursor.varint() {
-        Ok(n) => Some(n),
-        Err(_) => None,
-    }
 }

@@ -4,9 +4,11 @@
 
 mod cursor;
 mod fault;
+mod number;
 mod reading;
 mod writing;
 
 pub use cursor::Cursor;
 pub use fault::{ByteFault, NoMemory};
+pub use number::read_number;
 pub use writing::put_varint;

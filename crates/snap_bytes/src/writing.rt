@@ -1,7 +1,7 @@
 //! A varint, written behind some bytes.
 
 ghost use Rattle.std.specs.Prelude.{◌≡◌, ℕ, List, ◌++◌, take, length, OnOk, OnErr};
-ghost use Rattle.spec_format.specs.Varint.{IsVarint};
+ghost use Rattle.spec_format.specs.Varint.{IsVarint, varint};
 
 use crate::fault::NoMemory;
 use std::alloc::AllocError;
@@ -9,14 +9,17 @@ use std::alloc::AllocError;
 /// Appends the one spelling of the number. Where memory runs out, the bytes are as they were.
 pub fn put_varint(out: &mut Vec<u8>, n: u64) -> Result<(), NoMemory>
     ensures ok { OnOk result ((text : List ℕ) × IsVarint text n × (out.new.items ≡ out.old.items ++ text)) }
+    ensures number { OnOk result (out.new.items ≡ out.old.items ++ varint n) }
     ensures err { OnErr result (out.new.items ≡ out.old.items) }
 {
     let len = out.len();
-    if push_varint(out, n).is_err() {
-        out.truncate(len);
-        return Err(NoMemory);
+    match push_varint(out, n) {
+        Ok(()) => Ok(()),
+        Err(_) => {
+            out.truncate(len);
+            Err(NoMemory)
+        }
     }
-    Ok(())
 }
 
 /// Appends the one spelling of the number, or a part of it where memory runs out.

@@ -3,17 +3,18 @@ use Rattle.std.proofs.Common.{◌≡◌, ◌≢◌, ℕ, ◌<◌, ◌≤◌, zer
 use Rattle.std.specs.Prelude.{IfSome, Bool, true, false, nat_le, if◌then◌else◌}
 use Rattle.std.specs.Global.{Vec}
 use Rattle.std.proofs.lemmas.Bool.{lt-leb}
+use Rattle.snap_base.specs.declared.limits.TheConstants.{MOST_ITEMS, MOST_SOURCE_BYTES}
 use Rattle.snap_io.specs.Counts.{HasRisen}
 use Rattle.snap_io.specs.Held.{Held, Told, Writes, WritesInPart, bytes_under}
 use Rattle.snap_commands.specs.declared.fault.Fault.{Fault}
 use Rattle.snap_commands.specs.declared.fault.Fault.TheVariants as fault
-use Rattle.snap_commands.specs.Answers.{Answers, Builds, BuildsInPart, counted, print_limit, ran, ran_of, ran_unless, source_number}
+use Rattle.snap_commands.specs.Answers.{Answers, Builds, BuildsInPart, counted, ran, ran_of, ran_unless, source_number}
 use Rattle.snap_commands.specs.Coming.{Answered, Asked, Built, Comes, Counts, IsBlobVerdict, IsSteady, IsVerdict, Judged, Message, Said, Says, Unread, Unsaid, Unwritten, message_of, starved}
 use Rattle.snap_commands.specs.Coming as coming
 use Rattle.snap_commands.specs.Line.{blob_name, source_name}
 use Rattle.snap_commands.specs.Making.{Failed, Fetched, Fetches, Hungry, InPart, IsMade, Puts, Unput, Written}
 use Rattle.snap_commands.specs.Making as making
-use Rattle.snap_commands.specs.Refusals.{refusal, source_limit}
+use Rattle.snap_commands.specs.Refusals.{refusal}
 use Rattle.snap_commands.specs.Thin.{Globals, ThinStatement, prints}
 use Rattle.snap_parse.specs.declared.fault.SourceFault.TheVariants.{TooLong}
 use Rattle.snap_commands.specs.declared.refused.SourceRefused.{SourceRefused}
@@ -33,14 +34,14 @@ refused_runs_not : (number : ℕ) (source : List ℕ) (globals : Globals) (why :
 refused_runs_not number source globals why e = ap (λ (o : Option SourceRefused). ran_unless number globals o (thin_script source)) e
 
 -- a source that is too long is refused
-refused_long : (source : List ℕ) → source_limit < length source → refusal source ≡ Some (Parse TooLong)
+refused_long : (source : List ℕ) → MOST_SOURCE_BYTES < length source → refusal source ≡ Some (Parse TooLong)
 unfolding refusal
-refused_long source long = rw (lt-leb (length source) source_limit long) refl
+refused_long source long = rw (lt-leb (length source) MOST_SOURCE_BYTES long) refl
 
-pub long_runs_not : (number : ℕ) (source : List ℕ) (globals : Globals) → source_limit < length source → ran number source globals ≡ Err (fault.Source number (Parse TooLong))
+pub long_runs_not : (number : ℕ) (source : List ℕ) (globals : Globals) → MOST_SOURCE_BYTES < length source → ran number source globals ≡ Err (fault.Source number (Parse TooLong))
 long_runs_not number source globals long = refused_runs_not number source globals (Parse TooLong) (refused_long source long)
 
-held_long : (held : Option Held) (name : List ℕ) → IfSome held (λ h. source_limit < length (bytes_under h name)) → IfSome held (λ h. Answers h (Some (Build name)) (Err (fault.Source source_number (Parse TooLong))))
+held_long : (held : Option Held) (name : List ℕ) → IfSome held (λ h. MOST_SOURCE_BYTES < length (bytes_under h name)) → IfSome held (λ h. Answers h (Some (Build name)) (Err (fault.Source source_number (Parse TooLong))))
 held_long None name long = tt
 held_long (Some h) name long = sym (long_runs_not source_number (bytes_under h name) [] long)
 
@@ -51,7 +52,7 @@ printed_verdict false printed f e = subst (λ (x : Fault). IsVerdict {X = List �
 
 statements_verdict : (globals : Globals) (statements : Option (List ThinStatement)) (f : Fault) → ran_of globals statements ≡ Err f → IsVerdict {X = List ℕ} (Err f)
 statements_verdict globals None f e = subst (λ (x : Fault). IsVerdict {X = List ℕ} (Err x)) (err_is fault.NotBuilt f e) tt
-statements_verdict globals (Some ss) f e = printed_verdict (nat_le (length (prints ss globals)) print_limit) (prints ss globals) f e
+statements_verdict globals (Some ss) f e = printed_verdict (nat_le (length (prints ss globals)) MOST_ITEMS) (prints ss globals) f e
 
 pub run_verdict : (number : ℕ) (globals : Globals) (refused : Option SourceRefused) (statements : Option (List ThinStatement)) (f : Fault) → ran_unless number globals refused statements ≡ Err f → IsVerdict {X = List ℕ} (Err f)
 run_verdict number globals (Some why) statements f e = subst (λ (x : Fault). IsVerdict {X = List ℕ} (Err x)) (err_is (fault.Source number why) f e) tt

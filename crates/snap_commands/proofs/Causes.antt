@@ -11,7 +11,7 @@ use Rattle.snap_commands.specs.Answers.{Answers, counted, entry_number, ran, ran
 use Rattle.snap_commands.specs.Coming.{Answered, Asked, Built, Comes, Message, NoJob, Said, Says, Unread, Unsaid, Unwritten, message_of}
 use Rattle.snap_commands.specs.Coming as coming
 use Rattle.snap_commands.specs.Line.{fault_of, source_name}
-use Rattle.snap_commands.specs.Refusals.{HasCause, refusal, source_limit, unaccepted}
+use Rattle.snap_commands.specs.Refusals.{HasCause, refusal, unaccepted}
 use Rattle.snap_ast.specs.declared.tree.Tree.{Tree}
 use Rattle.spec_grammar.specs.Source.{HasTree, Refused, read_tree}
 use Rattle.spec_grammar.proofs.Sources.{read_is_tree}
@@ -29,9 +29,9 @@ use Rattle.snap_commands.specs.Thin.{Globals, ThinStatement, prints}
 use Rattle.snap_commands.specs.ThinBlob.{Loads}
 use Rattle.snap_commands.specs.ThinSource.{thin_script}
 use Rattle.snap_commands.specs.Verify.{Verifies}
-use Rattle.snap_commands.specs.Answers.{print_limit}
 use Rattle.snap_commands.specs.Line.{blob_name}
 use Rattle.std.proofs.lemmas.Bool.{leb-false}
+use Rattle.snap_base.specs.declared.limits.TheConstants.{MOST_ITEMS, MOST_SOURCE_BYTES}
 
 some_why : (one other : SourceRefused) → ◌≡◌ {A = Option SourceRefused} (Some one) (Some other) → one ≡ other
 some_why one other e = cc
@@ -52,14 +52,14 @@ unaccepted_cause : (source : List ℕ) (read : Result Tree Refused) (why : Sourc
 unaccepted_cause source (Ok tree) why is e = scope_cause source tree (early_error tree) why (read_is_tree source tree is) refl e
 unaccepted_cause source (Err refused) why is e = subst (HasCause source) (some_why (Parse (source_fault refused)) why e) (read_cause source refused is)
 
-refused_cause : (source : List ℕ) (short : Bool) (why : SourceRefused) → nat_le (length source) source_limit ≡ short → (if short then unaccepted (read_tree source) else Some (Parse parse.TooLong)) ≡ Some why → HasCause source why
+refused_cause : (source : List ℕ) (short : Bool) (why : SourceRefused) → nat_le (length source) MOST_SOURCE_BYTES ≡ short → (if short then unaccepted (read_tree source) else Some (Parse parse.TooLong)) ≡ Some why → HasCause source why
 refused_cause source true why is e = unaccepted_cause source (read_tree source) why refl e
-refused_cause source false why is e = subst (HasCause source) (some_why (Parse parse.TooLong) why e) (leb-false (length source) source_limit is)
+refused_cause source false why is e = subst (HasCause source) (some_why (Parse parse.TooLong) why e) (leb-false (length source) MOST_SOURCE_BYTES is)
 
 -- a source that is refused has the cause
 refusal_cause : (source : List ℕ) (why : SourceRefused) → refusal source ≡ Some why → HasCause source why
 unfolding refusal
-refusal_cause source why e = refused_cause source (nat_le (length source) source_limit) why refl e
+refusal_cause source why e = refused_cause source (nat_le (length source) MOST_SOURCE_BYTES) why refl e
 
 -- ---- what is accepted
 
@@ -84,7 +84,7 @@ accepted_if source false e = absurd cc
 -- a source that is not refused has a tree without early errors
 accepted_tree : (source : List ℕ) → refusal source ≡ None → IsAccepted source
 unfolding refusal
-accepted_tree source e = accepted_if source (nat_le (length source) source_limit) e
+accepted_tree source e = accepted_if source (nat_le (length source) MOST_SOURCE_BYTES) e
 
 unbuilt_accepted : (number : ℕ) (globals : Globals) (refused : Option SourceRefused) (statements : Option (List ThinStatement)) → ran_unless number globals refused statements ≡ Err fault.NotBuilt → refused ≡ None
 unbuilt_accepted number globals (Some why) statements e = absurd cc
@@ -103,7 +103,7 @@ printed_not false printed number why e = absurd cc
 ran_refused : (number : ℕ) (globals : Globals) (refused : Option SourceRefused) (statements : Option (List ThinStatement)) (n : ℕ) (why : SourceRefused) → Err (fault.Source n why) ≡ ran_unless number globals refused statements → refused ≡ Some why
 ran_refused number globals (Some other) statements n why e = ap (λ (w : SourceRefused). Some w) (same_refused n why number other e)
 ran_refused number globals None None n why e = absurd cc
-ran_refused number globals None (Some ss) n why e = absurd (printed_not (nat_le (length (prints ss globals)) print_limit) (prints ss globals) n why e)
+ran_refused number globals None (Some ss) n why e = absurd (printed_not (nat_le (length (prints ss globals)) MOST_ITEMS) (prints ss globals) n why e)
 
 -- a source that does not run for this reason has the cause
 ran_cause : (number : ℕ) (source : List ℕ) (globals : Globals) (n : ℕ) (why : SourceRefused) → Err (fault.Source n why) ≡ ran number source globals → HasCause source why

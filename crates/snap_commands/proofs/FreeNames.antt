@@ -8,12 +8,12 @@ use Rattle.std.proofs.lemmas.List.Elements.{All-from_recursion}
 use Rattle.std.proofs.lemmas.Map.Keys.{IsDistinct-cons, IsDistinct-head, IsDistinct-tail}
 use Rattle.std.proofs.lemmas.Map.Made.{AllPairs-from_IsDistinct}
 use Rattle.std.proofs.lemmas.Slice.Eq.{bytes_eq-Decides}
+use Rattle.snap_base.specs.declared.limits.TheConstants.{MOST_SOURCE_BYTES}
 use Rattle.spec_tokens.specs.Tokens.{Lexeme, lexemes}
 use Rattle.spec_tokens.specs.declared.fault.LexFault.{LexFault}
 use Rattle.snap_graph.specs.declared.value.Value.{Value}
 use Rattle.snap_commands.specs.Properties.{properties_of, property_of}
 use Rattle.snap_commands.specs.Thin.{Globals, ThinStatement, Assign, Log, LogGlobal, assigned, leaves}
-use Rattle.snap_commands.specs.Refusals.{source_limit}
 use Rattle.snap_commands.specs.ThinSource.{◌>>=◌, argument, assign_statement, closed, expect, free_name, global_name, is_free_name, is_name_token, literal, log_statement, own_names, parts_by_blanks, special_names, statements_of, thin_script, thin_statement, thin_statements}
 use Rattle.snap_commands.proofs.Steps.{bind_gave, if_gave, some_gave}
 
@@ -107,7 +107,7 @@ script_by source (Err fault) ss e = absurd cc
 script_sets_free : (source : List ℕ) (ss : List ThinStatement) → thin_script source ≡ Some ss → AllByRecursion SetsFree ss
 unfolding thin_script
 script_sets_free source ss e =
-    let h = if_gave (nat_le (length source) source_limit) (elim (lexemes source) [ Ok ls ↦ statements_of source ls | Err fault ↦ None ]) ss e in
+    let h = if_gave (nat_le (length source) MOST_SOURCE_BYTES) (elim (lexemes source) [ Ok ls ↦ statements_of source ls | Err fault ↦ None ]) ss e in
     script_by source (lexemes source) ss h.1
 
 -- each name that a thin script sets is free

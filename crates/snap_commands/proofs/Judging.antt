@@ -1,6 +1,7 @@
 -- Answers that look at the bytes of a blob.
 use Rattle.std.proofs.Common.{◌≡◌, ℕ, ◌<◌, List, Option, Some, None, Result, Ok, Err, length, refl, subst, arith, inl}
 use Rattle.std.specs.Prelude.{IfSome}
+use Rattle.snap_base.specs.declared.limits.TheConstants.{MOST_BLOB_BYTES}
 use Rattle.spec_format.specs.declared.fault.BlobKind.TheVariants.{TooLong}
 use Rattle.snap_io.specs.Held.{Held, bytes_under}
 use Rattle.snap_commands.specs.declared.fault.Fault.{Fault}
@@ -27,6 +28,6 @@ held_verdict None name bytes answer same said = tt
 held_verdict (Some h) name bytes answer same said = subst (λ (b : List ℕ). Verifies b answer) same said
 
 -- more bytes than a blob has are refused as too long
-pub held_too_long : (held : Option Held) (name : List ℕ) → IfSome held (λ h. 67108864 < length (bytes_under h name)) → IfSome held (λ h. Verifies (bytes_under h name) (Err (fault.Blob record { kind = TooLong; at = 67108864 })))
+pub held_too_long : (held : Option Held) (name : List ℕ) → IfSome held (λ h. MOST_BLOB_BYTES < length (bytes_under h name)) → IfSome held (λ h. Verifies (bytes_under h name) (Err (fault.Blob record { kind = TooLong; at = MOST_BLOB_BYTES })))
 held_too_long None name long = tt
 held_too_long (Some h) name long = AtContainer (inl (λ short. absurd (omega arith), refl))

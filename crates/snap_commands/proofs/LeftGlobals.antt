@@ -5,6 +5,7 @@ use Rattle.std.specs.List.{AllByRecursion, list_all, list_any}
 use Rattle.std.specs.Str.{bytes_eq}
 use Rattle.std.proofs.lemmas.Bool.{and_parts, leb-true}
 use Rattle.std.proofs.lemmas.List.Elements.{All-append, All-from_recursion, All-map}
+use Rattle.snap_base.specs.declared.limits.TheConstants.{MOST_SOURCE_BYTES}
 use Rattle.spec_tokens.proofs.Sound.{list_is_cut}
 use Rattle.spec_tokens.specs.Byte.{is_digit, is_part}
 use Rattle.spec_tokens.specs.Laws.{AreElements, Element, spelled, tokens_among}
@@ -23,7 +24,6 @@ use Rattle.snap_graph.specs.declared.value.Value.TheVariants as value
 use Rattle.snap_commands.specs.Properties.{own_properties, properties_of, property_of}
 use Rattle.snap_commands.specs.Thin.{Globals, ThinStatement, Assign, Log, LogGlobal, assigned, leaves}
 use Rattle.snap_commands.specs.ThinBlob.{IsPrimitive, IsThinGlobal, is_name}
-use Rattle.snap_commands.specs.Refusals.{source_limit}
 use Rattle.snap_commands.specs.ThinSource.{◌>>=◌, argument, assign_statement, closed, decimal_value, expect, free_name, global_name, is_free_name, is_name_token, literal, literal_value, log_statement, parts_by_blanks, plain_text_value, statements_of, thin_script, thin_statement, thin_statements, word_value}
 use Rattle.snap_commands.proofs.FreeNames.{left_free}
 use Rattle.snap_commands.proofs.MadeBlobs.{IsStored}
@@ -212,7 +212,7 @@ script_by source (Err fault) ss r-is e = absurd cc
 script_sets_thin : (source : List ℕ) (ss : List ThinStatement) → thin_script source ≡ Some ss → AllByRecursion SetsThin ss
 unfolding thin_script
 script_sets_thin source ss e =
-    let h = if_gave (nat_le (length source) source_limit) (elim (lexemes source) [ Ok ls ↦ statements_of source ls | Err fault ↦ None ]) ss e in
+    let h = if_gave (nat_le (length source) MOST_SOURCE_BYTES) (elim (lexemes source) [ Ok ls ↦ statements_of source ls | Err fault ↦ None ]) ss e in
     script_by source (lexemes source) ss refl h.1
 
 -- ---- what a script leaves

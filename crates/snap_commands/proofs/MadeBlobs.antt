@@ -12,6 +12,7 @@ use Rattle.std.proofs.lemmas.Option.{slice_get-get_or}
 use Rattle.std.proofs.lemmas.Slice.Eq.{bytes_eq-Decides}
 use Rattle.sha2.specs.Sha256.{sha256}
 use Rattle.sha2.proofs.Facts256.{length-sha256}
+use Rattle.snap_base.specs.declared.limits.TheConstants.{MOST_BLOB_BYTES}
 use Rattle.spec_format.specs.Check.{AllHold}
 use Rattle.spec_format.specs.Container.{AreSections, container, container_checks, end_entry, magic, payload, section, section_count, section_start, sections_of}
 use Rattle.spec_format.specs.Number.{AreBytes, ends_from, spelled32}
@@ -177,7 +178,7 @@ pieces_fit [] fits = All-nil AreBytes
 pieces_fit (piece ∷ pieces) fits = All-cons AreBytes piece pieces (front_of piece (concat pieces) fits) (pieces_fit pieces (rest_of piece (concat pieces) fits))
 
 -- sections whose container is short
-container_holds : (sections : List (List ℕ)) → 4 ≤ length sections → length sections ≤ 19 → AreBytes (container 1 sections) → length (container 1 sections) ≤ 67108864 → AreSections sections
+container_holds : (sections : List (List ℕ)) → 4 ≤ length sections → length sections ≤ 19 → AreBytes (container 1 sections) → length (container 1 sections) ≤ MOST_BLOB_BYTES → AreSections sections
 container_holds sections least most fits short =
     let p = payload sections in
     let f = spelled32 1 in
@@ -271,13 +272,13 @@ sections_denote bytes source strings properties holds are apart stored few check
 -- a container of a script, strings and properties denotes them
 pub made_denotes : (source : List ℕ) (properties : List Property) (strings : List (List ℕ)) (bytes : List ℕ) → AreStrings strings → AreOf strings (texts_of properties)
     → AllPairs (λ one other. one ≢ other) (map (λ p. p.key) properties) → All (λ p. IsStored p.value) properties → length properties < 2 ^ 32
-    → AreBytes bytes → length bytes ≤ 67108864
+    → AreBytes bytes → length bytes ≤ MOST_BLOB_BYTES
     → bytes ≡ container 1 ((0 ∷ []) ∷ string_list strings [] [] ∷ startup_bytes (one_script 0 source (chain_from 0 (map (λ p. text_number strings p.key) properties))) ∷ global_section strings (length properties) (map (λ p. p.value) properties) ∷ [])
     → Denotes bytes source strings properties
 made_denotes source properties strings bytes holds are apart stored few fits short made =
     let sections = sections_made source strings properties in
     let sections_hold : AreSections sections =
-    container_holds sections (omega arith) (omega arith) (subst AreBytes made fits) (subst (λ (b : List ℕ). length b ≤ 67108864) made short) in
+    container_holds sections (omega arith) (omega arith) (subst AreBytes made fits) (subst (λ (b : List ℕ). length b ≤ MOST_BLOB_BYTES) made short) in
     let read = containers.read_container sections sections_hold in
     let checks = containers.checks_from (container 1 sections) (containers.checked_read (container 1 sections) sections sections_hold read) in
     subst (λ (b : List ℕ). Denotes b source strings properties) (sym made)

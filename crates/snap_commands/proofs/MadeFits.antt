@@ -4,6 +4,7 @@ use Rattle.std.specs.Prelude.{AllPairs, Contains, IfOk, Ok, Result}
 use Rattle.std.specs.List.{list_any}
 use Rattle.std.specs.Str.{bytes_eq}
 use Rattle.std.proofs.lemmas.List.{length-map}
+use Rattle.snap_base.specs.declared.limits.TheConstants.{MOST_BLOB_BYTES}
 use Rattle.spec_format.specs.Container.{container}
 use Rattle.spec_format.specs.Startup.{one_script, startup_bytes}
 use Rattle.spec_format.specs.Number.{AreBytes}
@@ -39,7 +40,7 @@ captured_stored source globals h =
     subst (λ (g : Globals). All (λ p. IsStored p.value) (properties_of g)) (sym h.left) (stored_properties (leaves h.statements []) (left_thin source h.statements h.thin_source))
 
 -- the blob has a length that a blob may have
-pub made_short : (source : List ℕ) (globals : Globals) (strings : List (List ℕ)) → LeavesGlobals source globals → mass strings ≤ mass (texts_of (properties_of globals)) → length (container 1 (made_sections source strings (properties_of globals))) ≤ 67108864
+pub made_short : (source : List ℕ) (globals : Globals) (strings : List (List ℕ)) → LeavesGlobals source globals → mass strings ≤ mass (texts_of (properties_of globals)) → length (container 1 (made_sections source strings (properties_of globals))) ≤ MOST_BLOB_BYTES
 made_short source globals strings h light =
     let properties = properties_of globals in
     let shapes = made_shapes strings properties in
@@ -85,13 +86,13 @@ sections_same source globals texts strings given properties way =
     ap (λ (xs : List (List ℕ)). made_sections source xs properties) way.given_is ∙ ap (made_sections source strings) way.properties_are
 
 -- their blob is never too long
-pub never_long : (source : List ℕ) (globals : Globals) (texts strings given : List (List ℕ)) (properties : List Property) (sections : List (List ℕ)) → LeavesGlobals source globals → OnTheWay globals texts strings given properties → sections ≡ made_sections source given properties → 67108864 < length (container 1 sections) → ⊥
+pub never_long : (source : List ℕ) (globals : Globals) (texts strings given : List (List ℕ)) (properties : List Property) (sections : List (List ℕ)) → LeavesGlobals source globals → OnTheWay globals texts strings given properties → sections ≡ made_sections source given properties → MOST_BLOB_BYTES < length (container 1 sections) → ⊥
 never_long source globals texts strings given properties sections h way made long =
     omega (arith, long, ap (λ (xs : List (List ℕ)). length (container 1 xs)) (made ∙ sections_same source globals texts strings given properties way), made_short source globals strings h (subst (λ (xs : List (List ℕ)). mass strings ≤ mass xs) way.texts_are way.light))
 
 -- their blob is what a build leaves
 pub made_is_build : (source : List ℕ) (globals : Globals) (texts strings given : List (List ℕ)) (properties : List Property) (sections : List (List ℕ)) (bytes : List ℕ) → LeavesGlobals source globals → OnTheWay globals texts strings given properties → AreStrings strings
-    → sections ≡ made_sections source given properties → AreBytes bytes → length bytes ≤ 67108864 → bytes ≡ container 1 sections → IsBuild bytes source globals
+    → sections ≡ made_sections source given properties → AreBytes bytes → length bytes ≤ MOST_BLOB_BYTES → bytes ≡ container 1 sections → IsBuild bytes source globals
 made_is_build source globals texts strings given properties sections bytes h way lawful made are_bytes short is =
     let exact : AreOf strings (texts_of (properties_of globals)) = λ text. way.same text ∙ ap (λ (xs : List (List ℕ)). list_any (bytes_eq text) xs) way.texts_are in
     let whole : bytes ≡ container 1 (made_sections source strings (properties_of globals)) = is ∙ ap (container 1) (made ∙ sections_same source globals texts strings given properties way) in

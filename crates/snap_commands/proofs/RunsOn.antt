@@ -1,6 +1,7 @@
 -- How the parts of a run make its message.
 use Rattle.std.proofs.Common.{◌≡◌, ◌≢◌, ℕ, ◌<◌, ◌≤◌, List, [], ◌∷◌, inl, inr, Option, Some, None, Result, Ok, Err, Contains, length, refl, sym, ap, subst, ◌∙◌, arith}
 use Rattle.std.specs.Prelude.{IfSome}
+use Rattle.snap_base.specs.declared.limits.TheConstants.{MOST_SOURCE_BYTES}
 use Rattle.snap_io.specs.Counts.{HasRisen}
 use Rattle.snap_io.specs.Held.{Held, bytes_under}
 use Rattle.snap_commands.specs.declared.fault.Fault.{Fault}
@@ -18,7 +19,7 @@ use Rattle.snap_commands.specs.ThinBlob.{Loads}
 use Rattle.snap_commands.specs.ThinSource.{thin_script}
 use Rattle.snap_commands.specs.Words.{Run}
 use Rattle.snap_commands.proofs.Builds.{HasFetched, Is, Other, blob_verdict, long_runs_not, memory_or_not, run_verdict, says_nothing, says_other}
-use Rattle.snap_commands.specs.Refusals.{refusal, source_limit}
+use Rattle.snap_commands.specs.Refusals.{refusal}
 use Rattle.snap_parse.specs.declared.fault.SourceFault.TheVariants.{TooLong}
 use Rattle.snap_commands.specs.declared.refused.SourceRefused.TheVariants.{Parse}
 
@@ -27,7 +28,7 @@ err_is f g e = cc
 
 -- ---- the entry
 
-held_long : (held : Option Held) (entry : List ℕ) (globals : Globals) → IfSome held (λ h. source_limit < length (bytes_under h entry)) → IfSome held (λ h. Err (fault.Source entry_number (Parse TooLong)) ≡ ran entry_number (bytes_under h entry) globals)
+held_long : (held : Option Held) (entry : List ℕ) (globals : Globals) → IfSome held (λ h. MOST_SOURCE_BYTES < length (bytes_under h entry)) → IfSome held (λ h. Err (fault.Source entry_number (Parse TooLong)) ≡ ran entry_number (bytes_under h entry) globals)
 held_long None entry globals long = tt
 held_long (Some h) entry globals long = sym (long_runs_not entry_number (bytes_under h entry) globals long)
 

@@ -6,6 +6,7 @@ use Rattle.std.specs.Str.{bytes_eq}
 use Rattle.std.proofs.lemmas.Bool.{leb-true}
 use Rattle.std.proofs.lemmas.List.{length-drop, length-take, length-map}
 use Rattle.std.proofs.lemmas.Slice.Eq.{bytes_eq-Decides}
+use Rattle.snap_base.specs.declared.limits.TheConstants.{MOST_SOURCE_BYTES}
 use Rattle.spec_tokens.proofs.Lengths.{text_total, text_total-append, texts_fit_source}
 use Rattle.spec_tokens.specs.Tokens.{Lexeme, lexemes}
 use Rattle.spec_tokens.specs.Byte.{is_digit}
@@ -19,7 +20,6 @@ use Rattle.snap_graph.specs.declared.value.Value.TheVariants as value
 use Rattle.snap_commands.specs.Strings.{mass}
 use Rattle.snap_commands.specs.Properties.{own_properties, properties_of, property_of, texts_of, value_texts}
 use Rattle.snap_commands.specs.Thin.{Globals, ThinStatement, Assign, Log, LogGlobal, assigned, leaves}
-use Rattle.snap_commands.specs.Refusals.{source_limit}
 use Rattle.snap_commands.specs.ThinSource.{◌>>=◌, argument, assign_statement, closed, decimal_value, expect, free_name, global_name, is_free_name, is_name_token, literal, literal_value, log_statement, parts_by_blanks, plain_text_value, statements_of, thin_script, thin_statement, thin_statements, word_value}
 use Rattle.snap_commands.proofs.Steps.{bind_gave, if_gave, some_gave, unless_gave}
 use Rattle.snap_commands.proofs.Suffixes.{EndsWith, statement_ends}
@@ -195,11 +195,11 @@ script_by source (Ok ls) ss r-is e = omega (arith, tokens_fit source ls ss e, te
 script_by source (Err fault) ss r-is e = absurd cc
 
 -- a thin script sets no more than it has bytes, of which there are few
-pub script_fits : (source : List ℕ) (ss : List ThinStatement) → thin_script source ≡ Some ss → (script_mass ss ≤ length source) × (length source ≤ 1048576)
+pub script_fits : (source : List ℕ) (ss : List ThinStatement) → thin_script source ≡ Some ss → (script_mass ss ≤ length source) × (length source ≤ MOST_SOURCE_BYTES)
 unfolding thin_script
 script_fits source ss e =
-    let h = if_gave (nat_le (length source) source_limit) (elim (lexemes source) [ Ok ls ↦ statements_of source ls | Err fault ↦ None ]) ss e in
-    (script_by source (lexemes source) ss refl h.1, leb-true (length source) source_limit h.0)
+    let h = if_gave (nat_le (length source) MOST_SOURCE_BYTES) (elim (lexemes source) [ Ok ls ↦ statements_of source ls | Err fault ↦ None ]) ss e in
+    (script_by source (lexemes source) ss refl h.1, leb-true (length source) MOST_SOURCE_BYTES h.0)
 
 -- ---- what a script leaves
 

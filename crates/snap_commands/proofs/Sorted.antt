@@ -13,6 +13,7 @@ use Rattle.std.specs.declared.cmp.Ordering.TheVariants.{Less, Equal, Greater}
 use Rattle.std.proofs.lemmas.List.{map-append, take_all, take_more}
 use Rattle.std.proofs.lemmas.List.Elements.{All-append}
 use Rattle.std.proofs.lemmas.Map.Lookups.{exact_bytes}
+use Rattle.snap_base.specs.declared.limits.TheConstants.{MOST_ITEMS}
 use Rattle.spec_format.specs.Number.{AreBytes}
 use Rattle.spec_format.specs.Strings.{AreStrings, IsAscending}
 use Rattle.snap_commands.specs.Globals.{spelled}
@@ -113,7 +114,7 @@ each_light (x ∷ xs) zero d inside = omega arith
 each_light (x ∷ xs) (suc k) d inside = omega (arith, each_light xs k d (omega arith))
 
 -- light texts of bytes that ascend are strings that a section holds
-pub are_strings : (xs : List (List ℕ)) → mass xs ≤ 16777216 → All AreBytes xs → IsAscending xs → AreStrings xs
+pub are_strings : (xs : List (List ℕ)) → mass xs ≤ MOST_ITEMS → All AreBytes xs → IsAscending xs → AreStrings xs
 are_strings xs light bytes up = record {
   few = omega (arith, light, count_light xs);
   bytes = bytes;

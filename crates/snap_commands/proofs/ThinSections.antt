@@ -3,6 +3,7 @@ use Rattle.std.proofs.Common.{◌≡◌, ℕ, ◌<◌, ◌≤◌, ◌^◌, true,
 use Rattle.std.specs.Option.{is_some}
 use Rattle.std.specs.Prelude.{IfOk, MatchOption}
 use Rattle.std.specs.Global.{Vec}
+use Rattle.snap_base.specs.declared.limits.TheConstants.{MOST_BLOB_BYTES}
 use Rattle.spec_format.specs.Check.{AllHold}
 use Rattle.spec_format.specs.Container.{container_checks, section}
 use Rattle.spec_format.specs.Shapes.{AreLawful}
@@ -49,11 +50,11 @@ thin_under strings startup context globals seed script shapes e thin =
     }
 
 -- a startup section of fewer than 2 ^ 32 bytes has fewer than 2 ^ 32 shapes
-pub few_shapes : (startup : List ℕ) (seed : ℕ) (script : List ℕ) (shapes : List (ℕ × ℕ)) → startup ≡ startup_bytes (one_script seed script shapes) → length startup ≤ 67108864 → length shapes < 2 ^ 32
+pub few_shapes : (startup : List ℕ) (seed : ℕ) (script : List ℕ) (shapes : List (ℕ × ℕ)) → startup ≡ startup_bytes (one_script seed script shapes) → length startup ≤ MOST_BLOB_BYTES → length shapes < 2 ^ 32
 few_shapes startup seed script shapes e short = omega (arith, ap length e, shapes_few seed script shapes)
 
 -- sections with a thin script and such globals are thin
-thin_by : (strings : List (List ℕ)) (startup context : List ℕ) (globals : Globals) (seed : ℕ) (script : List ℕ) (shapes : List (ℕ × ℕ)) (properties : List Property) → AreStrings strings → length startup ≤ 67108864 → seed < 2 ^ 64
+thin_by : (strings : List (List ℕ)) (startup context : List ℕ) (globals : Globals) (seed : ℕ) (script : List ℕ) (shapes : List (ℕ × ℕ)) (properties : List Property) → AreStrings strings → length startup ≤ MOST_BLOB_BYTES → seed < 2 ^ 64
     → startup ≡ startup_bytes (one_script seed script shapes) → is_some (thin_script script) ≡ true → AreLawful (length strings) shapes
     → DenotesGlobal strings shapes context properties → properties ≡ properties_of globals → All IsThinGlobal globals → AreThin strings startup context globals
 thin_by strings startup context globals seed script shapes properties are short seed_fits e source lawful denotes same thin =
@@ -83,7 +84,7 @@ FoundThin strings startup context o = MatchOption o
     (λ list. AreThin strings startup context (kept_globals list.items))
 
 -- what is found behind the own properties is what is found in the sections
-found_thin : (strings : List (List ℕ)) (startup context : List ℕ) (seed : ℕ) (script : List ℕ) (shapes : List (ℕ × ℕ)) (properties : List Property) (o : Option (Vec Kept)) → AreStrings strings → length startup ≤ 67108864 → seed < 2 ^ 64
+found_thin : (strings : List (List ℕ)) (startup context : List ℕ) (seed : ℕ) (script : List ℕ) (shapes : List (ℕ × ℕ)) (properties : List Property) (o : Option (Vec Kept)) → AreStrings strings → length startup ≤ MOST_BLOB_BYTES → seed < 2 ^ 64
     → startup ≡ startup_bytes (one_script seed script shapes) → is_some (thin_script script) ≡ true → AreLawful (length strings) shapes
     → DenotesGlobal strings shapes context properties → FoundBehind properties o → FoundThin strings startup context o
 found_thin strings startup context seed script shapes properties None are short seed_fits e source lawful denotes none = λ globals thin.
@@ -92,7 +93,7 @@ found_thin strings startup context seed script shapes properties None are short 
 found_thin strings startup context seed script shapes properties (Some list) are short seed_fits e source lawful denotes found =
     thin_by strings startup context (kept_globals list.items) seed script shapes properties are short seed_fits e source lawful denotes found.0 found.1
 
-pub all_thin : (strings : List (List ℕ)) (startup context : List ℕ) (seed : ℕ) (script : List ℕ) (shapes : List (ℕ × ℕ)) (properties : List Property) (r : Result (Option (Vec Kept)) NoMemory) → AreStrings strings → length startup ≤ 67108864 → seed < 2 ^ 64
+pub all_thin : (strings : List (List ℕ)) (startup context : List ℕ) (seed : ℕ) (script : List ℕ) (shapes : List (ℕ × ℕ)) (properties : List Property) (r : Result (Option (Vec Kept)) NoMemory) → AreStrings strings → length startup ≤ MOST_BLOB_BYTES → seed < 2 ^ 64
     → startup ≡ startup_bytes (one_script seed script shapes) → is_some (thin_script script) ≡ true → AreLawful (length strings) shapes
     → DenotesGlobal strings shapes context properties → IfOk r (FoundBehind properties) → IfOk r (FoundThin strings startup context)
 all_thin strings startup context seed script shapes properties (Err f) are short seed_fits e source lawful denotes found = tt

@@ -1,5 +1,6 @@
 -- What a command comes to over what the files hold.
 use Rattle.std.specs.Prelude.{◌≡◌, ◌≢◌, ◌⊎◌, ℕ, List, [], Option, Some, None, Result, Ok, Err, MatchResult, length, nat_le, if◌then◌else◌}
+use Rattle.snap_base.specs.declared.limits.TheConstants.{MOST_ITEMS}
 use Rattle.snap_io.specs.Held.{Held, Writes, WritesInPart, bytes_under}
 use Rattle.snap_commands.specs.declared.fault.Fault.{Fault}
 use Rattle.snap_commands.specs.declared.fault.Fault.TheVariants as fault
@@ -13,10 +14,6 @@ use Rattle.snap_commands.specs.ThinBlob.{Loads}
 use Rattle.snap_commands.specs.Verify.{Verifies}
 use Rattle.snap_commands.specs.Words.{Job, Build, Run, Verify}
 
--- the most bytes that a script prints
-abbrev pub print_limit : ℕ
-print_limit = 16777216
-
 -- the number of the source of a build, its place among the sources
 abbrev pub source_number : ℕ
 source_number = 0
@@ -29,7 +26,7 @@ entry_number = 1
 abbrev pub ran_of : Globals → Option (List ThinStatement) → Result (List ℕ) Fault
 ran_of globals None = Err fault.NotBuilt
 ran_of globals (Some statements) =
-    if nat_le (length (prints statements globals)) print_limit then Ok (prints statements globals) else Err fault.NotBuilt
+    if nat_le (length (prints statements globals)) MOST_ITEMS then Ok (prints statements globals) else Err fault.NotBuilt
 
 -- a source that is refused under its number, and else what its statements print
 abbrev pub ran_unless : ℕ → Globals → Option SourceRefused → Option (List ThinStatement) → Result (List ℕ) Fault

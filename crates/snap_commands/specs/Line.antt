@@ -1,9 +1,9 @@
 -- What is printed, and the status that the program ends with.
 use Rattle.std.specs.Prelude.{◌≡◌, ℕ, Contains, List, [], ◌∷◌, ◌++◌, Option, Some, None, Result, Ok, Err, codes}
 use Rattle.std.specs.Fmt.{decimal}
+use Rattle.snap_base.specs.declared.limits.TheConstants.{MOST_SOURCE_BYTES}
 use Rattle.spec_format.specs.declared.fault.BlobKind.{BlobKind}
 use Rattle.spec_format.specs.declared.fault.BlobKind.TheVariants.{TooLong, TooShort, BadMagic, BadVersion, BadLength, BadDigest, BadSections, ExternalMissing, Truncated, BadOp, BadNumber, BadString, BadReference, BadShape, BadTable, BadSource, BadScope, BadRoot, Trailing}
-use Rattle.snap_commands.specs.Refusals.{source_limit}
 use Rattle.snap_commands.specs.Words.{Job, Build, Run, Verify}
 use Rattle.snap_commands.specs.declared.fault.Fault.{Fault}
 use Rattle.snap_commands.specs.declared.fault.Fault.TheVariants as fault
@@ -97,7 +97,7 @@ abbrev pub parse_place : SourceFault → ℕ
 parse_place (parse.Lex f) = lex_place f
 parse_place (parse.Syntax at) = at
 parse_place (parse.Nested at) = at
-parse_place parse.TooLong = source_limit
+parse_place parse.TooLong = MOST_SOURCE_BYTES
 parse_place parse.NoMemory = 0
 
 -- the kind of an early error

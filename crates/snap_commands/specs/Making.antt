@@ -1,6 +1,7 @@
 -- The parts of a build: reading the source, making the blob, writing it.
 use Rattle.std.specs.Prelude.{◌≡◌, ℕ, ◌≤◌, ◌<◌, List, [], ◌++◌, length, Some, None, IfSome, Result, Ok, Err}
 use Rattle.std.specs.Global.{Vec}
+use Rattle.snap_base.specs.declared.limits.TheConstants.{MOST_SOURCE_BYTES}
 use Rattle.snap_io.specs.Counts.{HasRisen}
 use Rattle.snap_io.specs.Held.{Told, Writes, WritesInPart, bytes_under}
 use Rattle.snap_commands.specs.declared.fault.Fault.{Fault}
@@ -13,12 +14,11 @@ use Rattle.snap_commands.specs.Denoted.{IsBuild, LeavesGlobals}
 use Rattle.snap_commands.specs.Line.{blob_name, unwritten_line}
 use Rattle.snap_commands.specs.Thin.{Globals}
 use Rattle.snap_commands.specs.ThinBlob.{Loads}
-use Rattle.snap_commands.specs.Refusals.{source_limit}
 
 -- the bytes of a source that was read, or why there are none under its number; the files keep what they hold
 pub data Fetches (number : ℕ) (source : List ℕ) (files : Asked) (bytes : Result (Vec ℕ) Fault) : Type 0 where
   Fetched : (v : Vec ℕ) → bytes ≡ Ok v → IfSome files.before (λ held. v.items ≡ bytes_under held source) → files.after ≡ files.before → IsSteady files → Fetches number source files bytes
-  TooLong : bytes ≡ Err (fault.Source number (Parse parse.TooLong)) → IfSome files.before (λ held. source_limit < length (bytes_under held source)) → files.after ≡ files.before → IsSteady files → Fetches number source files bytes
+  TooLong : bytes ≡ Err (fault.Source number (Parse parse.TooLong)) → IfSome files.before (λ held. MOST_SOURCE_BYTES < length (bytes_under held source)) → files.after ≡ files.before → IsSteady files → Fetches number source files bytes
   Failed : bytes ≡ Err fault.Read → files.after ≡ files.before → HasRisen files.reads_before files.reads_after → files.reads_before ≤ files.reads_after → files.writes_after ≡ files.writes_before → Fetches number source files bytes
   Hungry : bytes ≡ Err fault.NoMemory → files.after ≡ files.before → IsSteady files → Fetches number source files bytes
 

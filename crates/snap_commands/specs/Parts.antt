@@ -1,5 +1,6 @@
 -- The parts of a blob that has strings, a startup section and one context, and nothing else.
 use Rattle.std.specs.Prelude.{◌≡◌, ◌≢◌, ℕ, ◌≤◌, List, [], ◌∷◌, length}
+use Rattle.snap_base.specs.declared.limits.TheConstants.{MOST_BLOB_BYTES}
 use Rattle.spec_format.specs.Check.{AllHold}
 use Rattle.spec_format.specs.Container.{container_checks, section, section_count}
 use Rattle.spec_format.specs.Strings.{AreStrings, node_count, strings_of}
@@ -18,9 +19,9 @@ pub record HasParts (bytes : List ℕ) (parts : Parts) : Type 0 where
   pub strings : section_of parts.strings ≡ section bytes 1
   pub lawful : AreStrings (strings_of (section bytes 1))
   pub startup : parts.startup.now ≡ section bytes 2
-  pub startup_short : length parts.startup.now ≤ 67108864
+  pub startup_short : length parts.startup.now ≤ MOST_BLOB_BYTES
   pub context : parts.context.now ≡ section bytes 3
-  pub context_short : length parts.context.now ≤ 67108864
+  pub context_short : length parts.context.now ≤ MOST_BLOB_BYTES
 
 -- why a blob has not these parts
 abbrev pub HasNoParts : List ℕ → Fault → Type 0

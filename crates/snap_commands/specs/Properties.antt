@@ -1,5 +1,6 @@
 -- What a build captures: the properties of the global object, and the texts among them.
 use Rattle.std.specs.Prelude.{ℕ, List, [], ◌∷◌, ◌++◌, codes, map}
+use Rattle.snap_graph.specs.declared.intrinsic.TheConstants.{OBJECT, ARRAY, STRING, MAP, SET, ERROR, TYPE_ERROR, REFERENCE_ERROR, RANGE_ERROR, CONSOLE, HOST, REQUIRE, GLOBAL_OBJECT}
 use Rattle.snap_graph.specs.declared.value.Property.{Property}
 use Rattle.snap_graph.specs.declared.value.Value.{Value}
 use Rattle.snap_graph.specs.declared.value.Value.TheVariants as value
@@ -12,10 +13,10 @@ own name node = record { key = name; value = value.Node node }
 -- the properties that the global object has of its own: itself, and intrinsics
 abbrev pub own_properties : List Property
 own_properties =
-    own (codes "globalThis") 62 ∷ own (codes "Object") 10 ∷ own (codes "Array") 11 ∷ own (codes "String") 12
-    ∷ own (codes "Map") 13 ∷ own (codes "Set") 14 ∷ own (codes "Error") 15 ∷ own (codes "TypeError") 16
-    ∷ own (codes "ReferenceError") 17 ∷ own (codes "RangeError") 18 ∷ own (codes "console") 19 ∷ own (codes "host") 20
-    ∷ own (codes "require") 23 ∷ []
+    own (codes "globalThis") GLOBAL_OBJECT ∷ own (codes "Object") OBJECT ∷ own (codes "Array") ARRAY ∷ own (codes "String") STRING
+    ∷ own (codes "Map") MAP ∷ own (codes "Set") SET ∷ own (codes "Error") ERROR ∷ own (codes "TypeError") TYPE_ERROR
+    ∷ own (codes "ReferenceError") REFERENCE_ERROR ∷ own (codes "RangeError") RANGE_ERROR ∷ own (codes "console") CONSOLE ∷ own (codes "host") HOST
+    ∷ own (codes "require") REQUIRE ∷ []
 
 -- a global, as a property
 abbrev pub property_of : List ℕ × Value → Property

@@ -1,6 +1,7 @@
 -- Which sources are refused, and why.
 use Rattle.std.specs.Prelude.{ℕ, nat_le, List, Option, Some, None, Result, Ok, Err, length, if◌then◌else◌}
 use Rattle.std.specs.Option.{option_map}
+use Rattle.snap_base.specs.declared.limits.TheConstants.{MOST_SOURCE_BYTES}
 use Rattle.snap_ast.specs.declared.tree.Tree.{Tree}
 use Rattle.spec_scopes.specs.EarlyErrors.{HasFault}
 use Rattle.spec_scopes.specs.Told.{early_error}
@@ -12,10 +13,6 @@ use Rattle.snap_parse.specs.declared.fault.SourceFault.TheVariants.{TooLong}
 use Rattle.snap_commands.specs.declared.refused.SourceRefused.{SourceRefused}
 use Rattle.snap_commands.specs.declared.refused.SourceRefused.TheVariants.{Parse, Scope}
 
--- the most bytes of a source
-abbrev pub source_limit : ℕ
-source_limit = 1048576
-
 -- why a source that is not too long is refused: it has no tree, or its tree has an early error
 abbrev pub unaccepted : Result Tree Refused → Option SourceRefused
 unaccepted (Ok tree) = option_map Scope (early_error tree)
@@ -23,7 +20,7 @@ unaccepted (Err refused) = Some (Parse (source_fault refused))
 
 -- why a source is refused
 unfoldable pub refusal : List ℕ → Option SourceRefused
-refusal source = if nat_le (length source) source_limit then unaccepted (read_tree source) else Some (Parse TooLong)
+refusal source = if nat_le (length source) MOST_SOURCE_BYTES then unaccepted (read_tree source) else Some (Parse TooLong)
 
 -- the same as the language says it
 abbrev pub HasCause : List ℕ → SourceRefused → Type 0

@@ -2,6 +2,7 @@
 use Rattle.std.specs.Prelude.{ℕ, zero, suc, ◌+◌, ◌-◌, ◌==◌, Bool, true, false, not, ◌&&◌, ◌||◌, nat_le, List, [], ◌∷◌, Option, Some, None, Ok, Err, codes, drop, length, pos, slice_range, option_and_then, if◌then◌else◌}
 use Rattle.std.specs.List.{list_all, list_any}
 use Rattle.std.specs.Str.{bytes_eq}
+use Rattle.snap_base.specs.declared.limits.TheConstants.{MOST_SOURCE_BYTES}
 use Rattle.spec_tokens.specs.Byte.{is_blank, is_digit, is_line_end}
 use Rattle.spec_tokens.specs.Number.{largest, number_value}
 use Rattle.spec_tokens.specs.Tokens.{Lexeme, lexemes}
@@ -9,7 +10,6 @@ use Rattle.spec_tokens.specs.declared.piece.TokenKind.{TokenKind}
 use Rattle.spec_tokens.specs.declared.piece.TokenKind.TheVariants as kind
 use Rattle.snap_graph.specs.declared.value.Value.{Value}
 use Rattle.snap_graph.specs.declared.value.Value.TheVariants.{Undefined, Null, Bool as Truth, Int, Text}
-use Rattle.snap_commands.specs.Refusals.{source_limit}
 use Rattle.snap_commands.specs.Thin.{ThinStatement, Log, LogGlobal, Assign}
 
 infixl 10 ◌>>=◌
@@ -146,4 +146,4 @@ statements_of source ls = if parts_by_blanks source 0 ls then thin_statements (l
 -- the statements of a thin script, and none where the source is no thin script
 unfoldable pub thin_script : List ℕ → Option (List ThinStatement)
 thin_script source =
-    if nat_le (length source) source_limit then elim (lexemes source) [ Ok ls ↦ statements_of source ls | Err fault ↦ None ] else None
+    if nat_le (length source) MOST_SOURCE_BYTES then elim (lexemes source) [ Ok ls ↦ statements_of source ls | Err fault ↦ None ] else None

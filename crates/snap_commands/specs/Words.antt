@@ -5,6 +5,7 @@ use Rattle.std.specs.List.{list_all, starts_with}
 use Rattle.std.specs.Global.{Global}
 use Rattle.std.specs.declared.string.String.{String}
 use Rattle.std.specs.String.{string_bytes}
+use Rattle.snap_base.specs.declared.limits.TheConstants.{MOST_ITEMS}
 
 -- the bytes of each word
 abbrev pub bytes_of : List (String Global) → List (List ℕ)
@@ -14,9 +15,9 @@ bytes_of words = map string_bytes words
 abbrev pub is_printable : ℕ → Bool
 is_printable b = nat_le 32 b && nat_le b 126
 
--- a word that names a file: at most 16,777,216 printable characters, and no option
+-- a word that names a file: no longer than a text, of printable characters, and no option
 abbrev pub is_name : List ℕ → Bool
-is_name word = nat_le (length word) 16777216 && not (starts_with nat_eq word (codes "--")) && list_all is_printable word
+is_name word = nat_le (length word) MOST_ITEMS && not (starts_with nat_eq word (codes "--")) && list_all is_printable word
 
 -- a command, and the file that it works on; a run may have no entry
 pub data Job : Type 0 where

@@ -14,11 +14,12 @@ ghost use Rattle.snap_commands.specs.Words.{Build};
 use crate::build::made_blob;
 use crate::evaluate::{Stop, evaluate};
 use crate::fault::Fault;
-use crate::judge::{SOURCE_LIMIT, Unjudged, judge};
+use crate::judge::{Unjudged, judge};
 use crate::refused::SourceRefused;
 use crate::said::{Said, refused, starved};
 use crate::statement::Statement;
 use indexmap::IndexMap;
+use snap_base::MOST_SOURCE_BYTES;
 use snap_io::{Files, ReadAnswer, WriteAnswer};
 use snap_parse::SourceFault;
 use std::alloc::Global;
@@ -67,7 +68,7 @@ pub(crate) fn fetch<F: Files>(source: &str, number: u32, files: &mut F) -> Resul
       writes_after = F.write_faults files.new;
     }) result }
 {
-    match files.read(source, SOURCE_LIMIT as u32) {
+    match files.read(source, MOST_SOURCE_BYTES) {
         Ok(bytes) => Ok(bytes),
         Err(ReadAnswer::TooLong) => Err(Fault::Source(
             number,

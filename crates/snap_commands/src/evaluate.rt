@@ -7,11 +7,9 @@ ghost use Rattle.snap_commands.specs.Thin.{assigned, global_value, leaves, print
 
 use crate::statement::{Literal, Statement};
 use indexmap::IndexMap;
+use snap_base::MOST_ITEMS;
 use snap_text::{StrView, print_utf8};
 use std::alloc::{AllocError, AllocFailed, Global};
-
-/// The most bytes that a script prints.
-pub(crate) const PRINT_LIMIT: usize = 16_777_216;
 
 /// What the global object holds beside its own properties.
 pub(crate) type Globals<'a> = IndexMap<&'a [u8], Literal<'a>>;
@@ -32,11 +30,11 @@ pub(crate) fn evaluate<'a>(
     globals: &mut Globals<'a>,
     printed: &mut Vec<u8>,
 ) -> Result<(), Stop>
-    requires { length printed.old.items ≤ 16777216 }
+    requires { length printed.old.items ≤ MOST_ITEMS }
     ensures printed { OnOk result (printed.new.items ≡ printed.old.items ++ prints (map thin_of statements.now) (entries_of globals.old.entries)) }
     ensures globals { OnOk result (entries_of globals.new.entries ≡ leaves (map thin_of statements.now) (entries_of globals.old.entries)) }
-    ensures fits { OnOk result (length printed.new.items ≤ 16777216) }
-    ensures too_long { IsErrOf result Stop.TooLong → 16777216 < length (printed.old.items ++ prints (map thin_of statements.now) (entries_of globals.old.entries)) }
+    ensures fits { OnOk result (length printed.new.items ≤ MOST_ITEMS) }
+    ensures too_long { IsErrOf result Stop.TooLong → MOST_ITEMS < length (printed.old.items ++ prints (map thin_of statements.now) (entries_of globals.old.entries)) }
 {
     for statement in statements {
         perform(alloc, *statement, globals, printed)?;
@@ -50,11 +48,11 @@ fn perform<'a>(
     globals: &mut Globals<'a>,
     printed: &mut Vec<u8>,
 ) -> Result<(), Stop>
-    requires { length printed.old.items ≤ 16777216 }
+    requires { length printed.old.items ≤ MOST_ITEMS }
     ensures printed { OnOk result (printed.new.items ≡ printed.old.items ++ prints (thin_of statement.entry ∷ []) (entries_of globals.old.entries)) }
     ensures globals { OnOk result (entries_of globals.new.entries ≡ leaves (thin_of statement.entry ∷ []) (entries_of globals.old.entries)) }
-    ensures fits { OnOk result (length printed.new.items ≤ 16777216) }
-    ensures too_long { IsErrOf result Stop.TooLong → 16777216 < length (printed.old.items ++ prints (thin_of statement.entry ∷ []) (entries_of globals.old.entries)) }
+    ensures fits { OnOk result (length printed.new.items ≤ MOST_ITEMS) }
+    ensures too_long { IsErrOf result Stop.TooLong → MOST_ITEMS < length (printed.old.items ++ prints (thin_of statement.entry ∷ []) (entries_of globals.old.entries)) }
 {
     match statement {
         Statement::Log(value) => log(alloc, value, printed),
@@ -86,16 +84,16 @@ fn value_under<'a>(globals: &Globals<'a>, name: &[u8]) -> Literal<'a>
 }
 
 fn log(alloc: Global, value: Literal<'_>, printed: &mut Vec<u8>) -> Result<(), Stop>
-    requires { length printed.old.items ≤ 16777216 }
+    requires { length printed.old.items ≤ MOST_ITEMS }
     ensures printed { OnOk result (printed.new.items ≡ printed.old.items ++ (text_of (value_of value.entry) ++ codes "\n")) }
-    ensures fits { OnOk result (length printed.new.items ≤ 16777216) }
-    ensures too_long { IsErrOf result Stop.TooLong → 16777216 < length (printed.old.items ++ (text_of (value_of value.entry) ++ codes "\n")) }
+    ensures fits { OnOk result (length printed.new.items ≤ MOST_ITEMS) }
+    ensures too_long { IsErrOf result Stop.TooLong → MOST_ITEMS < length (printed.old.items ++ (text_of (value_of value.entry) ++ codes "\n")) }
 {
     let mut line = Vec::new(alloc);
     if put_text(alloc, value, &mut line).is_err() {
         return Err(Stop::NoMemory);
     }
-    if line.len() >= PRINT_LIMIT || printed.len() >= PRINT_LIMIT - line.len() {
+    if line.len() >= MOST_ITEMS as usize || printed.len() >= MOST_ITEMS as usize - line.len() {
         return Err(Stop::TooLong);
     }
     if printed.extend_from_slice(&line).is_err() || printed.push(b'\n').is_err() {

@@ -8,7 +8,7 @@ ghost use Rattle.spec_tokens.specs.Byte.{is_digit};
 ghost use Rattle.spec_tokens.specs.Tokens.{lexemes};
 ghost use Rattle.snap_lex.specs.View.{views};
 ghost use Rattle.snap_commands.specs.Judged.{left, literal_left, name_left, statement_left, thin_list};
-ghost use Rattle.snap_commands.specs.Refusals.{refusal, source_limit};
+ghost use Rattle.snap_commands.specs.Refusals.{refusal};
 ghost use Rattle.snap_commands.specs.Answers.{ran};
 ghost use Rattle.snap_commands.specs.declared.fault.Fault.{Fault};
 ghost use Rattle.snap_ast.specs.declared.tree.Tree.{Tree};
@@ -23,13 +23,11 @@ ghost use Rattle.snap_commands.specs.ThinSource.{argument, assign_statement, clo
 
 use crate::refused::SourceRefused;
 use crate::statement::{Literal, Statement};
+use snap_base::MOST_SOURCE_BYTES;
 use snap_lex::{LexFault, Token, TokenKind, safe_number, tokens};
 use snap_parse::{Parsed, SourceFault, parse_with_tokens};
 use snap_scope::{ScopeFault, resolve};
 use std::alloc::{AllocError, Global};
-
-/// The most bytes of a source.
-pub(crate) const SOURCE_LIMIT: usize = 1_048_576;
 
 /// Why a source has no statements.
 #[derive(Clone, Copy, Debug, PartialEq, Eq)]
@@ -47,7 +45,7 @@ fn judge_parsed<'s>(
     source: &[u8],
     parsed: &Parsed<'s>,
 ) -> Result<Option<Vec<Statement<'s>>>, Unjudged>
-    requires short { length source.now ≤ source_limit }
+    requires short { length source.now ≤ MOST_SOURCE_BYTES }
     requires cut { lexemes source.now ≡ Ok (views parsed.now.tokens.items) }
     requires lawful { Lawful parsed.now.tree }
     ensures judged { IfOk result (λ o. thin_list o ≡ thin_script source.now) }
@@ -92,7 +90,7 @@ pub(crate) fn thin_script(
 ) -> Result<Option<Vec<Statement<'_>>>, AllocError>
     ensures { IfOk result (λ o. thin_list o ≡ thin_script source.now) }
 {
-    if source.len() > SOURCE_LIMIT {
+    if source.len() > MOST_SOURCE_BYTES as usize {
         return Ok(None);
     }
     match tokens(alloc, source) {

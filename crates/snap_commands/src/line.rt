@@ -5,8 +5,8 @@ ghost use Rattle.std.specs.String.{string_bytes};
 ghost use Rattle.snap_commands.specs.Line.{count_line, fault_line, kind_name, lex_kind, lex_place, parse_kind, parse_place, refused_kind, refused_place, refused_text, scope_kind, scope_place, status_of};
 
 use crate::fault::Fault;
-use crate::judge::SOURCE_LIMIT;
 use crate::refused::SourceRefused;
+use snap_base::MOST_SOURCE_BYTES;
 use snap_blob::{BlobFault, BlobKind};
 use snap_lex::LexFault;
 use snap_parse::SourceFault;
@@ -111,7 +111,7 @@ fn parse_place(fault: SourceFault) -> u32
     match fault {
         SourceFault::Lex(fault) => lex_place(fault),
         SourceFault::Syntax(at) | SourceFault::Nested(at) => at,
-        SourceFault::TooLong => SOURCE_LIMIT as u32,
+        SourceFault::TooLong => MOST_SOURCE_BYTES,
         SourceFault::NoMemory => 0,
     }
 }

@@ -21,7 +21,7 @@ use crate::judge;
 use crate::keeping::globals_behind;
 use crate::kept::{Kept, Loaded};
 use crate::parts::{Parts, parts_of, strings_in};
-use snap_base::NoMemory;
+use snap_base::{MOST_BLOB_BYTES, NoMemory};
 use snap_blob::{ShapeStep, are_lawful, read_startup};
 use snap_ctxfmt::read_global;
 use snap_graph::Property;
@@ -50,8 +50,8 @@ pub(crate) fn globals_of_parts(
     parts: &Parts<'_>,
 ) -> Result<Option<Vec<Kept>>, NoMemory>
     requires lawful { AreStrings (strings_of (section_of parts.now.strings)) }
-    requires startup { length parts.now.startup.now ≤ 67108864 }
-    requires context { length parts.now.context.now ≤ 67108864 }
+    requires startup { length parts.now.startup.now ≤ MOST_BLOB_BYTES }
+    requires context { length parts.now.context.now ≤ MOST_BLOB_BYTES }
     ensures { IfOk result (λ o. MatchOption o
         ((globals : Globals) → AreThin (strings_of (section_of parts.now.strings)) parts.now.startup.now parts.now.context.now globals → ⊥)
         (λ list. AreThin (strings_of (section_of parts.now.strings)) parts.now.startup.now parts.now.context.now (kept_globals list.items))) }
@@ -67,8 +67,8 @@ fn globals_of_sections(
     context: &[u8],
 ) -> Result<Option<Vec<Kept>>, NoMemory>
     requires lawful { AreStrings strings.now }
-    requires startup { length startup.now ≤ 67108864 }
-    requires context { length context.now ≤ 67108864 }
+    requires startup { length startup.now ≤ MOST_BLOB_BYTES }
+    requires context { length context.now ≤ MOST_BLOB_BYTES }
     ensures { IfOk result (λ o. MatchOption o
         ((globals : Globals) → AreThin strings.now startup.now context.now globals → ⊥)
         (λ list. AreThin strings.now startup.now context.now (kept_globals list.items))) }
@@ -103,7 +103,7 @@ fn read_context(
     strings: &[Units],
 ) -> Result<Option<Vec<Property>>, NoMemory>
     requires lawful { AreStrings strings.now }
-    requires context { length context.now ≤ 67108864 }
+    requires context { length context.now ≤ MOST_BLOB_BYTES }
     requires few { length shapes.now < 2 ^ 32 }
     ensures lawful { IfOk result (λ read. IfSome read (λ _. AreLawful (length strings.now) (map pair_of shapes.now))) }
     ensures denotes { IfOk result (λ read. IfSome read (λ properties. DenotesGlobal strings.now (map pair_of shapes.now) context.now properties.items)) }

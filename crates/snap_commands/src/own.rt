@@ -2,20 +2,22 @@
 
 ghost use Rattle.std.specs.Prelude.{◌≡◌};
 
-/// Their names and the nodes that they hold: the global object itself, which is node 62, and
+use snap_graph::intrinsic;
+
+/// Their names and the nodes that they hold: the global object itself, and
 /// intrinsics.
 pub(crate) const OWN: [(&str, u32); 13] = [
-    ("globalThis", 62),
-    ("Object", 10),
-    ("Array", 11),
-    ("String", 12),
-    ("Map", 13),
-    ("Set", 14),
-    ("Error", 15),
-    ("TypeError", 16),
-    ("ReferenceError", 17),
-    ("RangeError", 18),
-    ("console", 19),
-    ("host", 20),
-    ("require", 23),
+    ("globalThis", intrinsic::GLOBAL_OBJECT),
+    ("Object", intrinsic::OBJECT),
+    ("Array", intrinsic::ARRAY),
+    ("String", intrinsic::STRING),
+    ("Map", intrinsic::MAP),
+    ("Set", intrinsic::SET),
+    ("Error", intrinsic::ERROR),
+    ("TypeError", intrinsic::TYPE_ERROR),
+    ("ReferenceError", intrinsic::REFERENCE_ERROR),
+    ("RangeError", intrinsic::RANGE_ERROR),
+    ("console", intrinsic::CONSOLE),
+    ("host", intrinsic::HOST),
+    ("require", intrinsic::REQUIRE),
 ];

@@ -22,7 +22,8 @@ use crate::kept::{Loaded, globals_of};
 use crate::load::load;
 use crate::said::{Said, refused};
 use crate::statement::Statement;
-use snap_blob::{BLOB_LIMIT, BlobFault, BlobKind};
+use snap_base::MOST_BLOB_BYTES;
+use snap_blob::{BlobFault, BlobKind};
 use snap_io::{Files, ReadAnswer};
 use std::alloc::Global;
 
@@ -62,11 +63,11 @@ fn find<F: Files>(alloc: Global, files: &mut F) -> Result<Loaded, Fault>
     }) (globals_in result) }
     ensures apart { IfOk result (λ loaded. AreApart (kept_globals loaded.globals.items)) }
 {
-    match files.read(BLOB_NAME, BLOB_LIMIT) {
+    match files.read(BLOB_NAME, MOST_BLOB_BYTES) {
         Ok(bytes) => load(alloc, &bytes),
         Err(ReadAnswer::TooLong) => Err(Fault::Blob(BlobFault {
             kind: BlobKind::TooLong,
-            at: BLOB_LIMIT,
+            at: MOST_BLOB_BYTES,
         })),
         Err(ReadAnswer::Failed) => Err(Fault::Read),
         Err(ReadAnswer::NoMemory) => Err(Fault::NoMemory),

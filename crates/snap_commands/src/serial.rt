@@ -24,7 +24,8 @@ use crate::running::run;
 use crate::said::{Said, counted, refused};
 use crate::verify::verify;
 use crate::words::{Job, job_of};
-use snap_blob::{BLOB_LIMIT, BlobFault, BlobKind};
+use snap_base::MOST_BLOB_BYTES;
+use snap_blob::{BlobFault, BlobKind};
 use snap_io::{Files, ReadAnswer, Sink, WriteAnswer};
 use std::alloc::Global;
 
@@ -195,11 +196,11 @@ fn count_of<F: Files>(alloc: Global, name: &str, files: &mut F) -> Result<u32, F
       writes_after = F.write_faults files.new;
     }) result }
 {
-    match files.read(name, BLOB_LIMIT) {
+    match files.read(name, MOST_BLOB_BYTES) {
         Ok(bytes) => verify(alloc, &bytes),
         Err(ReadAnswer::TooLong) => Err(Fault::Blob(BlobFault {
             kind: BlobKind::TooLong,
-            at: BLOB_LIMIT,
+            at: MOST_BLOB_BYTES,
         })),
         Err(ReadAnswer::Failed) => Err(Fault::Read),
         Err(ReadAnswer::NoMemory) => Err(Fault::NoMemory),

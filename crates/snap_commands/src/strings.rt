@@ -7,14 +7,14 @@ ghost use Rattle.snap_commands.specs.Globals.{spelled};
 ghost use Rattle.snap_commands.specs.Strings.{AreOf, mass};
 
 use crate::properties::text;
-use snap_base::NoMemory;
+use snap_base::{MOST_ITEMS, NoMemory};
 use snap_text::Units;
 use std::alloc::Global;
 use std::collections::BTreeSet;
 
 /// The texts, each once, ascending by their units.
 pub(crate) fn strings(alloc: Global, texts: &[&[u8]]) -> Result<Vec<Units>, NoMemory>
-    requires { mass (spelled texts.now) ≤ 16777216 }
+    requires { mass (spelled texts.now) ≤ MOST_ITEMS }
     ensures lawful { IfOk result (λ list. AreStrings list.items) }
     ensures same { IfOk result (λ list. AreOf list.items (spelled texts.now)) }
     ensures light { IfOk result (λ list. mass list.items ≤ mass (spelled texts.now)) }

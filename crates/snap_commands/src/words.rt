@@ -6,8 +6,7 @@ ghost use Rattle.std.specs.Option.{option_map};
 ghost use Rattle.snap_commands.specs.Words.{bytes_of, is_name, is_printable, job_of, job_under};
 ghost use Rattle.snap_commands.specs.Views.{job_view};
 
-/// The most characters of a word.
-const WORD_LIMIT: usize = 16_777_216;
+use snap_base::MOST_ITEMS;
 
 /// What a command line asks for: a command, and the name of the file that it works on.
 #[derive(Clone, Copy, Debug, PartialEq, Eq)]
@@ -43,11 +42,11 @@ fn job_under<'a>(command: &str, name: &'a str) -> Option<Job<'a>>
     }
 }
 
-// Whether a word names a file: at most 16,777,216 printable characters, and no option.
+// Whether a word names a file: no longer than a text, of printable characters, and no option.
 fn is_name(word: &str) -> bool
     ensures { result ≡ is_name word.now }
 {
-    if word.len() > WORD_LIMIT {
+    if word.len() > MOST_ITEMS as usize {
         return false;
     }
     if word.as_bytes().starts_with(b"--") {

@@ -1,21 +1,8 @@
 //! Fields at the front of what is left of a section.
 
-ghost use Rattle.std.specs.Prelude.{◌≡◌, ℕ, ◌<◌, ◌^◌, ◌↔◌, List, ◌∷◌, ◌++◌, length, IfSome, IsSome, IsTrue, Some};
-ghost use Rattle.spec_format.specs.Varint.{varint};
+ghost use Rattle.std.specs.Prelude.{◌≡◌, ℕ, ◌<◌, ◌^◌, ◌↔◌, List, ◌∷◌, ◌++◌, length, IfSome, IsTrue, Some};
 
 use snap_bytes::Cursor;
-
-/// The number that is spelled at the front.
-pub fn read_number(cursor: &mut Cursor) -> Option<u64>
-    ensures some { IfSome result (λ n. cursor.old.left ≡ varint n ++ cursor.new.left) }
-    ensures only { (n : ℕ) (rest : List ℕ) → n < 2 ^ 64
-        → cursor.old.left ≡ varint n ++ rest → (result ≡ Some n) × (cursor.new.left ≡ rest) }
-{
-    match cursor.varint() {
-        Ok(n) => Some(n),
-        Err(_) => None,
-    }
-}
 
 /// The next byte.
 pub fn read_byte(cursor: &mut Cursor) -> Option<u8>

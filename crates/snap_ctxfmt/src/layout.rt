@@ -27,9 +27,6 @@ pub const READ_ONLY_NODE: u8 = 0x07;
 /// A private node that was brought in before, whose number follows.
 pub const PRIVATE_NODE: u8 = 0x08;
 
-/// The number of the global object as a value, which stands behind the intrinsics.
-pub const GLOBAL_NODE: u32 = 62;
-
 /// One private node, brought in as the global object: a plain object that is not frozen, whose
 /// prototype is the read-only node 0, and whose properties have a shape.
 pub const HEAD: [u8; 7] = [0x01, 0x09, 0x10, 0x00, 0x07, 0x00, 0x20];

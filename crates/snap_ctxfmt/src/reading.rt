@@ -11,13 +11,13 @@ ghost use Rattle.spec_sections.specs.Global.{value_bytes};
 ghost use Rattle.spec_sections.specs.Properties.{AreProperties, DenotesGlobal};
 ghost use Rattle.snap_ctxfmt.specs.Reading.{end_bytes, front_bytes, Spell};
 
-use crate::fields::{are_left, come_next, read_number};
+use crate::fields::{are_left, come_next};
 use crate::layout::{END, HEAD};
 use crate::shape_keys::keys_of;
 use crate::value_reader::read_value;
 use snap_base::NoMemory;
 use snap_blob::ShapeStep;
-use snap_bytes::Cursor;
+use snap_bytes::{Cursor, read_number};
 use snap_graph::Property;
 use snap_text::Units;
 use std::alloc::Global;

@@ -7,13 +7,12 @@ ghost use Rattle.spec_sections.specs.Global.{zigzag};
 ghost use Rattle.spec_sections.specs.Properties.{IsSafe};
 ghost use Rattle.snap_ctxfmt.specs.Reading.{Spell};
 
-use crate::fields::{read_byte, read_number};
-use crate::layout::{
-    FALSE, GLOBAL_NODE, INTEGER, NULL, PRIVATE_NODE, READ_ONLY_NODE, TEXT, TRUE, UNDEFINED,
-};
+use crate::fields::read_byte;
+use crate::layout::{FALSE, INTEGER, NULL, PRIVATE_NODE, READ_ONLY_NODE, TEXT, TRUE, UNDEFINED};
 use snap_base::NoMemory;
-use snap_bytes::Cursor;
+use snap_bytes::{Cursor, read_number};
 use snap_graph::Value;
+use snap_graph::intrinsic::GLOBAL_OBJECT;
 use snap_text::Units;
 use std::alloc::Global;
 
@@ -124,7 +123,7 @@ fn read_intrinsic(cursor: &mut Cursor) -> Option<Value>
         → IsSome result × (cursor.new.left ≡ rest) }
 {
     let node = read_number(cursor)?;
-    if node >= u64::from(GLOBAL_NODE) {
+    if node >= u64::from(GLOBAL_OBJECT) {
         return None;
     }
     Some(Value::Node(node as u32))
@@ -139,5 +138,5 @@ fn read_global_object(cursor: &mut Cursor) -> Option<Value>
     if read_number(cursor)? != 0 {
         return None;
     }
-    Some(Value::Node(GLOBAL_NODE))
+    Some(Value::Node(GLOBAL_OBJECT))
 }

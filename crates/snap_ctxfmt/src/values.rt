@@ -7,12 +7,13 @@ ghost use Rattle.spec_sections.specs.Global.{zigzag, value_bytes};
 ghost use Rattle.spec_sections.specs.Texts.{HasText};
 
 use crate::layout::{
-    EMPTY, FALSE, GLOBAL_NODE, INTEGER, NULL, PRIVATE_NODE, READ_ONLY_NODE, TEXT, TRUE, UNDEFINED,
+    EMPTY, FALSE, INTEGER, NULL, PRIVATE_NODE, READ_ONLY_NODE, TEXT, TRUE, UNDEFINED,
 };
 use crate::texts::text_number;
 use snap_base::NoMemory;
-use snap_bytes::put_varint;
+use snap_blob::put_number;
 use snap_graph::Value;
+use snap_graph::intrinsic::GLOBAL_OBJECT;
 use snap_text::Units;
 
 /// An integer as a number that is small where the integer is near 0: n from 0 on becomes 2n, and n
@@ -40,17 +41,10 @@ pub fn put_value(out: &mut Vec<u8>, value: &Value, strings: &[Units]) -> Result<
         Value::Bool(true) => put_byte(out, TRUE),
         Value::Int(n) => put_tagged(out, INTEGER, zigzag(*n)),
         Value::Text(text) => put_tagged(out, TEXT, text_number(strings, text)),
-        Value::Node(GLOBAL_NODE) => put_tagged(out, PRIVATE_NODE, 0),
+        Value::Node(GLOBAL_OBJECT) => put_tagged(out, PRIVATE_NODE, 0),
         Value::Node(node) => put_tagged(out, READ_ONLY_NODE, u64::from(*node)),
         Value::Empty => put_byte(out, EMPTY),
     }
-}
-
-/// Appends a number.
-pub fn put_number(out: &mut Vec<u8>, n: u64) -> Result<(), NoMemory>
-    ensures { OnOk result (out.new.items ≡ out.old.items ++ varint n) }
-{
-    put_varint(out, n).map_err(|_| NoMemory)
 }
 
 /// Appends bytes.

@@ -7,8 +7,9 @@ ghost use Rattle.spec_sections.specs.Global.{value_bytes, global_section};
 ghost use Rattle.spec_sections.specs.Texts.{HasText};
 
 use crate::layout::{END, HEAD};
-use crate::values::{put_bytes, put_number, put_value};
+use crate::values::{put_bytes, put_value};
 use snap_base::NoMemory;
+use snap_blob::put_number;
 use snap_graph::Property;
 use snap_text::Units;
 use std::alloc::Global;

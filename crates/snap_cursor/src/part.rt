@@ -10,15 +10,19 @@ ghost use Rattle.spec_grammar.specs.Sign.{text_at};
 use crate::cursor::Cursor;
 use crate::fault::ReadFault;
 use crate::operator::{Tail, is_tail, tail_of, update_of};
-use snap_ast::{Items, Named, PropertyKey, UpdateOperator};
+use snap_ast::{Named, PropertyKey, UpdateOperator};
+use snap_text::{NoMemory, StrView, Units};
 use spec_grammar::Sign;
 use std::alloc::{AllocError, Global};
 
-/// The bytes of the next token.
-fn copied_text(alloc: Global, cursor: &Cursor<'_>) -> Result<Items<u8>, AllocError>
+/// The text that the next token is, a unit a byte.
+fn copied_text(alloc: Global, cursor: &Cursor<'_>) -> Result<Units, AllocError>
     ensures { IfOk result (λ text. text ≡ text_at cursor.now) }
 {
-    Ok(Items::from_vec(Vec::from_slice(alloc, cursor.text())?))
+    match StrView::One(cursor.text()).copy(alloc) {
+        Ok(text) => Ok(text),
+        Err(NoMemory) => Err(AllocError),
+    }
 }
 
 /// The next token as a name.
@@ -44,7 +48,7 @@ pub fn name(alloc: Global, cursor: &mut Cursor<'_>) -> Result<Named, ReadFault>
 
 /// The word that stands next.
 #[tactic(auto, unfolding(spec_grammar::specs::ReadExpressions::word, spec_grammar::specs::Outcome::check))]
-pub fn word(alloc: Global, cursor: &mut Cursor<'_>) -> Result<Items<u8>, ReadFault>
+pub fn word(alloc: Global, cursor: &mut Cursor<'_>) -> Result<Units, ReadFault>
     ensures { Reads (word cursor.old) result cursor.new }
 {
     if !cursor.sees_word() {

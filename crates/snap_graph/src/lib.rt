@@ -2,6 +2,7 @@
 #![tactic(auto)]
 
 mod ending;
+pub mod intrinsic;
 mod kind;
 mod laws;
 mod node;

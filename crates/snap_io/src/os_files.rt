@@ -79,7 +79,7 @@ impl<R: System + AllocGlobal> Files for OsFiles<R> {
     }
 }
 
-// A regular file's length is known ahead, so its bytes are held once.
+// A regular file's length is known ahead, so its bytes are held once and read by one call.
 fn known_length(file: &impl OpenFile) -> Result<u64, ReadAnswer>
     ensures { result ≢ Err ReadAnswer.TooLong }
 {
@@ -92,7 +92,7 @@ fn read_file<R: System + AllocGlobal>(rt: &R, name: &str, limit: u32) -> Result<
 {
     let mut file = fs::open(rt, name).map_err(read_answer)?;
     let room = known_length(&file)?.min(u64::from(limit)) as usize + 1;
-    let bytes = Vec::with_capacity(rt.alloc(), room)?;
+    let bytes = vec![in rt.alloc(); 0u8; room]?;
     read_up_to(&mut file, bytes, limit)
 }
 

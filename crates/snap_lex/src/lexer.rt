@@ -7,6 +7,7 @@ ghost use Rattle.spec_tokens.specs.Laws.{AreTokens};
 ghost use Rattle.spec_tokens.specs.Tokens.{Lexeme, lexemes_of, newline_behind};
 
 use crate::pieces::piece;
+use snap_base::MOST_SOURCE_BYTES;
 use spec_tokens::{LexFault, PieceKind, TokenKind};
 use std::alloc::Global;
 
@@ -55,7 +56,7 @@ fn add<'a>(
 
 /// The tokens of a source, or why it has none.
 fn read<'a>(alloc: Global, source: &'a [u8]) -> Result<Vec<Token<'a>>, LexFault>
-    requires { length source.now ≤ 1048576 }
+    requires { length source.now ≤ MOST_SOURCE_BYTES }
     ensures exact { Cuts result source.now }
 {
     let mut list = Vec::new(alloc);
@@ -75,7 +76,7 @@ fn read<'a>(alloc: Global, source: &'a [u8]) -> Result<Vec<Token<'a>>, LexFault>
 
 /// The tokens of a source, in order, or its fault with the place.
 pub fn tokens<'a>(alloc: Global, source: &'a [u8]) -> Result<Vec<Token<'a>>, LexFault>
-    requires { length source.now ≤ 1048576 }
+    requires { length source.now ≤ MOST_SOURCE_BYTES }
     ensures exact { Cuts result source.now }
 
     // What is answered are the tokens of the source, and these are answered unless memory runs out.

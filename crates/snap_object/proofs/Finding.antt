@@ -1,51 +1,94 @@
 -- Reading a property, part by part.
-use Rattle.std.proofs.Common.{◌≡◌, ℕ, ◌≤◌, Bool, true, false, pos, List, codes, length, slice_get, Option, Some, Result, Err, refl, sym, ap, if◌then◌else◌, unwrap_or}
+use Rattle.std.proofs.Common.{◌≡◌, ℕ, ◌≤◌, ◌<◌, arith, Bool, true, false, pos, List, codes, length, slice_get, Option, None, Some, Result, Err, refl, sym, ap, ◌∙◌, if◌then◌else◌, unwrap_or}
 use Rattle.std.specs.Str.{bytes_eq as text_eq}
 use Rattle.std.proofs.lemmas.Option.{slice_get_past}
 use Rattle.snap_base.specs.declared.stop.Stop.TheVariants.{NotInProfile}
+use Rattle.snap_graph.specs.declared.intrinsic.TheConstants.{STRING_PROTOTYPE, TYPE_ERROR_PROTOTYPE}
+use Rattle.snap_graph.specs.declared.node.Node.{Node}
+use Rattle.snap_graph.specs.Lawful.{IsLawful}
 use Rattle.snap_graph.specs.declared.value.Value.{Value}
-use Rattle.snap_graph.specs.declared.value.Value.TheVariants.{Undefined, Int, Node as At, Text}
-use Rattle.spec_values.specs.Access.{is_length, look_up, named_key, reached_from}
-use Rattle.spec_values.specs.Answer.{◌>>=◌, Gave, give, stop}
+use Rattle.snap_graph.specs.declared.value.Value.TheVariants.{Undefined, Null, Bool as Truth, Int, Node as At, Text, Empty}
+use Rattle.spec_values.specs.Access.{get, get_of_node, index_of, is_array, is_length, kind_of, look_up, named_key, reached_from}
+use Rattle.spec_values.specs.Answer.{◌>>=◌, Gave, Heap, give, stop}
 use Rattle.spec_values.specs.Operations.{elements_of}
-use Rattle.snap_object.specs.declared.fault.Abrupt.{Abrupt}
-use Rattle.snap_object.specs.Gives.{Gives, Seen, standing}
-use Rattle.snap_object.specs.Parts.{element_read, looked_up, node_rest, outside, text_rest}
-use Rattle.snap_object.proofs.Follows.{alike, cut, grouped}
-use Rattle.snap_object.proofs.Growing.{stop_grows}
+use Rattle.snap_action.specs.declared.fault.Abrupt.{Abrupt}
+use Rattle.snap_store.specs.declared.store.Store.{Ghosts}
+use Rattle.snap_action.specs.Gives.{Gives, Shows, as_is, standing}
+use Rattle.snap_object.specs.Parts.{element_read, looked_up, node_rest, outside, text_rest, unspelled}
+use Rattle.snap_action.proofs.Follows.{alike, cut, grouped}
+use Rattle.snap_action.specs.declared.errors.ErrorKind.TheVariants.{TypeError}
+use Rattle.snap_action.proofs.Called.{error_is_there}
+use Rattle.snap_action.proofs.Growing.{stop_grows}
+use Rattle.snap_action.proofs.Throwing.{throws_alike}
 
 -- a stop outside the profile, in place of any answer
-pub outside_so : {H A R : Type 0} {leaves_out : List ℕ → Bool} {first last : Seen} {view : R → A} {meaning : H → Value} (key : Value) {fault : Abrupt H}
-    → Gives {A = Unit {0}} {R = Unit {0}} leaves_out first last (λ done. done) meaning (Err fault) (outside key) → Gives leaves_out first last view meaning (Err fault) (outside key)
-outside_so {A = A} {first = first} {view = view} key {fault = fault} one =
-    alike (outside key >>= λ done. stop {A = A} NotInProfile) (outside key) (λ keys. grouped (named_key key (standing first keys)) _ (λ done. stop {A = A} NotInProfile) _ (λ name heap. refl))
-    (cut view fault (outside key) (λ done. stop NotInProfile) (λ done. stop_grows NotInProfile) one)
+pub outside_so : {S H A R : Type 0} {store : Ghosts S H} {first last : S} {shows : Shows R A} (key : Value) {fault : Abrupt H}
+    → Gives {R = Unit {0}} store first last as_is (Err fault) (outside key) → Gives store first last shows (Err fault) (outside key)
+outside_so {A = A} {store = store} {first = first} {shows = shows} key {fault = fault} one =
+    alike (outside key >>= λ done. stop {A = A} NotInProfile) (outside key) (λ keys. grouped (named_key key (standing (store.view first) keys)) _ (λ done. stop {A = A} NotInProfile) _ (λ name heap. refl))
+    (cut shows fault (outside key) (λ done. stop NotInProfile) (λ done. stop_grows NotInProfile) one)
 
-module _ {H R : Type 0} {leaves_out : List ℕ → Bool} {first last : Seen} {view : R → Value} {meaning : H → Value} {result : Result R (Abrupt H)} where
+module _ {S H R : Type 0} {store : Ghosts S H} {first last : S} {shows : Shows R (Value)} {result : Result R (Abrupt H)} where
   -- the two ways of a name
-  pub text_length : (text name : List ℕ) → text_eq name (codes "length") ≡ true → Gives leaves_out first last view meaning result (give (Int (pos (length text)))) → Gives leaves_out first last view meaning result (text_rest text name)
+  pub text_length : (text name : List ℕ) → text_eq name (codes "length") ≡ true → Gives store first last shows result (give (Int (pos (length text)))) → Gives store first last shows result (text_rest text name)
   text_length text name e h =
-      alike (give (Int (pos (length text)))) (text_rest text name) (λ keys. ap (λ (b : Bool). (if b then give (Int (pos (length text))) else look_up (Text text) name (reached_from first.nodes 3)) (standing first keys)) (sym e)) h
+      alike (give (Int (pos (length text)))) (text_rest text name) (λ keys. ap (λ (b : Bool). (if b then give (Int (pos (length text))) else look_up (Text text) name (reached_from (store.view first).nodes STRING_PROTOTYPE)) (standing (store.view first) keys)) (sym e)) h
 
-  pub text_other : (text name : List ℕ) → text_eq name (codes "length") ≡ false → Gives leaves_out first last view meaning result (looked_up (Text text) name 3) → Gives leaves_out first last view meaning result (text_rest text name)
+  pub text_other : (text name : List ℕ) → text_eq name (codes "length") ≡ false → Gives store first last shows result (looked_up (Text text) name STRING_PROTOTYPE) → Gives store first last shows result (text_rest text name)
   text_other text name e h =
-      alike (looked_up (Text text) name 3) (text_rest text name) (λ keys. ap (λ (b : Bool). (if b then give (Int (pos (length text))) else look_up (Text text) name (reached_from first.nodes 3)) (standing first keys)) (sym e)) h
+      alike (looked_up (Text text) name STRING_PROTOTYPE) (text_rest text name) (λ keys. ap (λ (b : Bool). (if b then give (Int (pos (length text))) else look_up (Text text) name (reached_from (store.view first).nodes STRING_PROTOTYPE)) (standing (store.view first) keys)) (sym e)) h
 
-  pub node_length : (number : ℕ) (name : List ℕ) → is_length first.nodes number name ≡ true → Gives leaves_out first last view meaning result (give (Int (pos (length (elements_of first.nodes number))))) → Gives leaves_out first last view meaning result (node_rest number name)
+  pub node_length : (number : ℕ) (name : List ℕ) → is_length (store.view first).nodes number name ≡ true → Gives store first last shows result (give (Int (pos (length (elements_of (store.view first).nodes number))))) → Gives store first last shows result (node_rest number name)
   node_length number name e h =
-      alike (give (Int (pos (length (elements_of first.nodes number))))) (node_rest number name)
-      (λ keys. ap (λ (b : Bool). (if b then give (Int (pos (length (elements_of first.nodes number)))) else look_up (At number) name (reached_from first.nodes number)) (standing first keys)) (sym e)) h
+      alike (give (Int (pos (length (elements_of (store.view first).nodes number))))) (node_rest number name)
+      (λ keys. ap (λ (b : Bool). (if b then give (Int (pos (length (elements_of (store.view first).nodes number)))) else look_up (At number) name (reached_from (store.view first).nodes number)) (standing (store.view first) keys)) (sym e)) h
 
-  pub node_other : (number : ℕ) (name : List ℕ) → is_length first.nodes number name ≡ false → Gives leaves_out first last view meaning result (looked_up (At number) name number) → Gives leaves_out first last view meaning result (node_rest number name)
+  pub node_other : (number : ℕ) (name : List ℕ) → is_length (store.view first).nodes number name ≡ false → Gives store first last shows result (looked_up (At number) name number) → Gives store first last shows result (node_rest number name)
   node_other number name e h =
       alike (looked_up (At number) name number) (node_rest number name)
-      (λ keys. ap (λ (b : Bool). (if b then give (Int (pos (length (elements_of first.nodes number)))) else look_up (At number) name (reached_from first.nodes number)) (standing first keys)) (sym e)) h
+      (λ keys. ap (λ (b : Bool). (if b then give (Int (pos (length (elements_of (store.view first).nodes number)))) else look_up (At number) name (reached_from (store.view first).nodes number)) (standing (store.view first) keys)) (sym e)) h
 
   -- an element that is there, or is not
-  pub element_there : (number place : ℕ) (value : Value) → slice_get (elements_of first.nodes number) place ≡ Some value → Gives leaves_out first last view meaning result (give value) → Gives leaves_out first last view meaning result (element_read number place)
+  pub element_there : (number place : ℕ) (value : Value) → slice_get (elements_of (store.view first).nodes number) place ≡ Some value → Gives store first last shows result (give value) → Gives store first last shows result (element_read number place)
   element_there number place value e h =
-      alike (give value) (element_read number place) (λ keys. ap (λ (found : Option Value). Gave (unwrap_or found Undefined) (standing first keys)) (sym e)) h
+      alike (give value) (element_read number place) (λ keys. ap (λ (found : Option Value). Gave (unwrap_or found Undefined) (standing (store.view first) keys)) (sym e)) h
 
-  pub element_past : (number place : ℕ) → length (elements_of first.nodes number) ≤ place → Gives leaves_out first last view meaning result (give Undefined) → Gives leaves_out first last view meaning result (element_read number place)
+  pub element_past : (number place : ℕ) → length (elements_of (store.view first).nodes number) ≤ place → Gives store first last shows result (give Undefined) → Gives store first last shows result (element_read number place)
   element_past number place e h =
-      alike (give Undefined) (element_read number place) (λ keys. ap (λ (found : Option Value). Gave (unwrap_or found Undefined) (standing first keys)) (sym (slice_get_past (elements_of first.nodes number) place e))) h
+      alike (give Undefined) (element_read number place) (λ keys. ap (λ (found : Option Value). Gave (unwrap_or found Undefined) (standing (store.view first) keys)) (sym (slice_get_past (elements_of (store.view first).nodes number) place e))) h
+
+  -- an element of an array
+  pub by_element : (number : ℕ) (key : Value) (place : ℕ) → is_array (kind_of (store.view first).nodes number) ≡ true → index_of key ≡ Some place → Gives store first last shows result (element_read number place) → Gives store first last shows result (get (At number) key)
+  by_element number key place array index h =
+      alike (element_read number place) (get (At number) key)
+      (λ keys. sym (ap (λ (b : Bool). get_of_node number key (if b then index_of key else None) (standing (store.view first) keys)) array ∙ ap (λ (found : Option ℕ). get_of_node number key found (standing (store.view first) keys)) index)) h
+
+-- a base that is neither undefined nor null
+pub unspelled_stops : {A : Type 0} (base : Value) → (base ≡ Undefined → ⊥) → (base ≡ Null → ⊥) → unspelled {A = A} base ≡ stop NotInProfile
+unspelled_stops Undefined one other = absurd (one refl)
+unspelled_stops Null one other = absurd (other refl)
+unspelled_stops (Truth b) one other = refl
+unspelled_stops (Int z) one other = refl
+unspelled_stops (Text text) one other = refl
+unspelled_stops (At number) one other = refl
+unspelled_stops Empty one other = refl
+
+-- what is without a text, in place of any answer
+unspelled_alike : {A : Type 0} (base : Value) (heap : Heap) → (unspelled {A = Unit} base >>= λ done. stop {A = A} NotInProfile) heap ≡ unspelled base heap
+unspelled_alike {A} Undefined heap = throws_alike TYPE_ERROR_PROTOTYPE (codes "no properties") heap
+unspelled_alike {A} Null heap = throws_alike TYPE_ERROR_PROTOTYPE (codes "no properties") heap
+unspelled_alike (Truth b) heap = refl
+unspelled_alike (Int z) heap = refl
+unspelled_alike (Text text) heap = refl
+unspelled_alike (At number) heap = refl
+unspelled_alike Empty heap = refl
+
+pub unspelled_so : {S H A R : Type 0} {store : Ghosts S H} {first last : S} {shows : Shows R A} (base : Value) {fault : Abrupt H}
+    → Gives {R = Unit {0}} store first last as_is (Err fault) (unspelled base) → Gives store first last shows (Err fault) (unspelled base)
+unspelled_so {A = A} {store = store} {first = first} {shows = shows} base {fault = fault} one =
+    alike (unspelled base >>= λ done. stop {A = A} NotInProfile) (unspelled base) (λ keys. unspelled_alike base (standing (store.view first) keys))
+    (cut shows fault (unspelled base) (λ done. stop NotInProfile) (λ done. stop_grows NotInProfile) one)
+
+-- String.prototype is there
+pub string_is_there : (nodes : List Node) → IsLawful nodes → STRING_PROTOTYPE < length nodes
+string_is_there nodes lawful = omega (arith, error_is_there TypeError nodes lawful)

@@ -1,136 +1,168 @@
--- Actions go on from the keys that were used.
-use Rattle.std.proofs.Common.{ℕ, ◌&&◌, Bool, true, false, not, nat_lt, nat_le, pos, List, [], ◌∷◌, ◌++◌, codes, length, Option, None, Some, is_some, Result, Ok, Err, refl, sym, ◌∙◌, append_assoc, if◌then◌else◌}
+-- Property access goes on from the heap in which it begins.
+use Rattle.std.proofs.Common.{ℕ, ◌==◌, true, nat_lt, pos, List, [], ◌∷◌, codes, length, slice_get, Option, None, Some, is_some, Result, Ok, Err, if◌then◌else◌}
 use Rattle.std.specs.Str.{bytes_eq as text_eq}
-use Rattle.std.proofs.lemmas.List.{append-nil}
-use Rattle.snap_base.specs.declared.limits.TheConstants.{MOST_ITEMS, MOST_PRIVATE_NODES, MOST_PROPERTIES}
 use Rattle.snap_base.specs.declared.stop.Stop.{Stop}
-use Rattle.snap_base.specs.declared.stop.Stop.TheVariants.{NotInProfile, TooLong, TooManyNodes}
-use Rattle.snap_graph.specs.declared.kind.Kind.{Kind}
-use Rattle.snap_graph.specs.declared.kind.Kind.TheVariants as kind
+use Rattle.snap_base.specs.declared.stop.Stop.TheVariants.{NotInProfile}
+use Rattle.snap_graph.specs.declared.intrinsic.TheConstants.{STRING_PROTOTYPE, TYPE_ERROR_PROTOTYPE}
 use Rattle.snap_graph.specs.declared.value.Value.{Value}
 use Rattle.snap_graph.specs.declared.value.Value.TheVariants.{Undefined, Null, Bool as Truth, Int, Text, Node as At, Empty}
-use Rattle.spec_values.specs.Access.{delete, entry_count, found_or, get, is_length, is_size, is_special, kind_of, look_up, may_write, named_key, or_stop, reached_from, set, size_of, size_or_throw, throw_error}
-use Rattle.spec_values.specs.Answer.{Action, Answer, Gave, Heap, Stopped, Threw, give, stop, throw_value, use_key}
+use Rattle.spec_values.specs.Access.{delete, delete_named, delete_of_node, delete_of_text, element_of, element_or_undefined, entry_count, found_or, get, get_of_node, get_of_text, index_of, is_length, is_size, is_special, kind_of, look_up, may_write, named_key, not_writable, or_stop, reached_from, set, set_element_of, set_named, set_of_node, set_of_text, size_of, size_or_throw, unit_or_undefined}
+use Rattle.spec_values.specs.Answer.{Action, give, stop, use_key}
 use Rattle.spec_values.specs.Conversions.{text_of}
-use Rattle.spec_values.specs.Operations.{elements_of, is_frozen, make, own_value, properties_of, push_element, put_own}
-use Rattle.spec_values.specs.Uses.{HasUsed, used_by}
-use Rattle.spec_values.proofs.Using.{delete_uses, get_uses, set_uses}
-use Rattle.snap_object.specs.Gives.{Begins, keys_of}
-use Rattle.snap_object.specs.Parts.{looked_up, node_rest, text_rest}
-use Rattle.snap_object.proofs.Follows.{Grows, grows_then}
+use Rattle.spec_values.specs.Operations.{elements_of, is_frozen, own_value, put_own, remove_own, with_element}
+use Rattle.snap_action.proofs.Follows.{grows_then}
+use Rattle.snap_action.proofs.Growing.{Goes, by_heap_grows, change_grows, chosen_grows, error_grows, give_grows, push_grows, put_grows, remove_grows, stop_grows, use_grows}
+use Rattle.snap_object.specs.Parts.{is_kept, is_outside, looked_up, may_write_from, node_rest, outside, put_unless_frozen, refused, text_rest, without}
 
-pub at_once : (keys : List (List ℕ)) → Begins keys keys
-at_once keys = ([], sym (append-nil keys))
-
-pub give_grows : {A : Type 0} (x : A) → Grows (give x)
-give_grows x = record { begins = λ heap. at_once heap.keys }
-
-pub stop_grows : {A : Type 0} (why : Stop) → Grows (stop {A = A} why)
-stop_grows why = record { begins = λ heap. at_once heap.keys }
-
-pub throw_grows : {A : Type 0} (value : Value) → Grows (throw_value {A = A} value)
-throw_grows value = record { begins = λ heap. at_once heap.keys }
-
-pub use_grows : (name : List ℕ) → Grows (use_key name)
-use_grows name = record { begins = λ heap. (name ∷ [], refl) }
-
--- one of two answers
-either : {A : Type 0} (keys : List (List ℕ)) (b : Bool) (one other : Answer A) → Begins keys (keys_of one) → Begins keys (keys_of other) → Begins keys (keys_of (if b then one else other))
-either keys true one other f g = f
-either keys false one other f g = g
-
-pub make_grows : (of_kind : Kind) (prototype : Value) → Grows (make of_kind prototype)
-make_grows of_kind prototype = record { begins = λ heap. either heap.keys (nat_lt heap.private_nodes MOST_PRIVATE_NODES) _ (Stopped TooManyNodes heap) (at_once heap.keys) (at_once heap.keys) }
-
-pub put_grows : (number : ℕ) (key : List ℕ) (value : Value) → Grows (put_own number key value)
-put_grows number key value = record { begins = λ heap. either heap.keys (not (is_some (own_value heap.nodes number key)) && nat_le MOST_PROPERTIES (length (properties_of heap.nodes number))) (Stopped TooLong heap) _ (at_once heap.keys) (at_once heap.keys) }
-
-pub push_grows : (number : ℕ) (value : Value) → Grows (push_element number value)
-push_grows number value = record { begins = λ heap. either heap.keys (nat_le MOST_ITEMS (length (elements_of heap.nodes number))) (Stopped TooLong heap) _ (at_once heap.keys) (at_once heap.keys) }
-
--- one of two actions, by what the heap is
-chosen : {A : Type 0} (b : Bool) (one other : Action A) (heap : Heap) → Grows one → Grows other → Begins heap.keys (keys_of ((if b then one else other) heap))
-chosen true one other heap f g = f.begins heap
-chosen false one other heap f g = g.begins heap
-
-pub picked_grows : {A : Type 0} (test : Heap → Bool) (one other : Heap → Action A) → ((heap : Heap) → Grows (one heap)) → ((heap : Heap) → Grows (other heap)) → Grows (λ heap. (if test heap then one heap else other heap) heap)
-picked_grows test one other f g = record { begins = λ heap. chosen (test heap) (one heap) (other heap) heap (f heap) (g heap) }
-
-pub error_grows : {A : Type 0} (prototype : ℕ) (message : List ℕ) → Grows (throw_error {A = A} prototype message)
-error_grows prototype message =
-    grows_then (make kind.Error (At prototype)) _ (make_grows kind.Error (At prototype)) (λ error.
-    grows_then (use_key (codes "message")) _ (use_grows (codes "message")) (λ used.
-    grows_then (put_own error (codes "message") (Text message)) _ (put_grows error (codes "message") (Text message)) (λ put. throw_grows (At error))))
-
-or_stop_grows : {A : Type 0} (result : Result A Stop) → Grows (or_stop result)
+or_stop_grows : {A : Type 0} (result : Result A Stop) → Goes (or_stop result)
 or_stop_grows (Ok x) = give_grows x
 or_stop_grows (Err why) = stop_grows why
 
-pub chosen_grows : {A : Type 0} (b : Bool) (one other : Action A) → Grows one → Grows other → Grows (if b then one else other)
-chosen_grows true one other f g = f
-chosen_grows false one other f g = g
-
-pub named_grows : (key : Value) → Grows (named_key key)
+pub named_grows : (key : Value) → Goes (named_key key)
 named_grows key =
     grows_then (or_stop (text_of key)) _ (or_stop_grows (text_of key)) (λ name.
     grows_then (use_key name) _ (use_grows name) (λ used. chosen_grows (text_eq name (codes "__proto__")) (stop NotInProfile) (give name) (stop_grows NotInProfile) (give_grows name)))
 
-size_grows : (found : Option ℕ) → Grows (size_or_throw found)
-size_grows None = error_grows 7 (codes "wrong receiver")
+size_grows : (found : Option ℕ) → Goes (size_or_throw found)
+size_grows None = error_grows TYPE_ERROR_PROTOTYPE (codes "wrong receiver")
 size_grows (Some n) = give_grows (Int (pos n))
 
-pub size_of_grows : (prototype : ℕ) (base : Value) → Grows (size_of prototype base)
+pub size_of_grows : (prototype : ℕ) (base : Value) → Goes (size_of prototype base)
 size_of_grows prototype Undefined = size_grows None
 size_of_grows prototype Null = size_grows None
 size_of_grows prototype (Truth b) = size_grows None
 size_of_grows prototype (Int z) = size_grows None
 size_of_grows prototype (Text text) = size_grows None
-size_of_grows prototype (At base) = record { begins = λ heap. (size_grows (entry_count prototype (kind_of heap.nodes base) (elements_of heap.nodes base))).begins heap }
+size_of_grows prototype (At base) = by_heap_grows (λ heap. size_or_throw (entry_count prototype (kind_of heap.nodes base) (elements_of heap.nodes base))) (λ heap. size_grows (entry_count prototype (kind_of heap.nodes base) (elements_of heap.nodes base)))
 size_of_grows prototype Empty = size_grows None
 
-found_grows : (found : Option Value) (further : Action Value) → Grows further → Grows (found_or found further)
+found_grows : (found : Option Value) (further : Action Value) → Goes further → Goes (found_or found further)
 found_grows None further f = f
 found_grows (Some held) further f = give_grows held
 
-pub look_up_grows : (base : Value) (name numbers : List ℕ) → Grows (look_up base name numbers)
+pub look_up_grows : (base : Value) (name numbers : List ℕ) → Goes (look_up base name numbers)
 look_up_grows base name [] = give_grows Undefined
 look_up_grows base name (number ∷ rest) = record {
-  begins = λ heap.
+  on = λ heap.
       (chosen_grows (is_special (kind_of heap.nodes number) name) _ _ (stop_grows NotInProfile)
-      (chosen_grows (is_size number name) _ _ (size_of_grows number base) (found_grows (own_value heap.nodes number name) _ (look_up_grows base name rest)))).begins heap;
+      (chosen_grows (is_size number name) _ _ (size_of_grows number base) (found_grows (own_value heap.nodes number name) _ (look_up_grows base name rest)))).on heap;
 }
 
-pub may_write_grows : (name numbers : List ℕ) → Grows (may_write name numbers)
+pub may_write_grows : (name numbers : List ℕ) → Goes (may_write name numbers)
 may_write_grows name [] = give_grows (tt {0})
 may_write_grows name (number ∷ rest) = record {
-  begins = λ heap.
+  on = λ heap.
       (chosen_grows (is_special (kind_of heap.nodes number) name) _ _ (stop_grows NotInProfile)
-      (chosen_grows (is_size number name) _ _ (error_grows 7 (codes "not writable"))
-      (chosen_grows (is_some (own_value heap.nodes number name)) _ _ (chosen_grows (is_frozen heap.nodes number) _ _ (error_grows 7 (codes "not writable")) (give_grows (tt {0}))) (may_write_grows name rest)))).begins heap;
+      (chosen_grows (is_size number name) _ _ (error_grows TYPE_ERROR_PROTOTYPE (codes "not writable"))
+      (chosen_grows (is_some (own_value heap.nodes number name)) _ _ (chosen_grows (is_frozen heap.nodes number) _ _ (error_grows TYPE_ERROR_PROTOTYPE (codes "not writable")) (give_grows (tt {0}))) (may_write_grows name rest)))).on heap;
 }
 
-pub looked_up_grows : (base : Value) (name : List ℕ) (from : ℕ) → Grows (looked_up base name from)
-looked_up_grows base name from = record { begins = λ heap. (look_up_grows base name (reached_from heap.nodes from)).begins heap }
+pub looked_up_grows : (base : Value) (name : List ℕ) (from : ℕ) → Goes (looked_up base name from)
+looked_up_grows base name from = by_heap_grows (λ heap. look_up base name (reached_from heap.nodes from)) (λ heap. look_up_grows base name (reached_from heap.nodes from))
 
-pub text_rest_grows : (text name : List ℕ) → Grows (text_rest text name)
+pub text_rest_grows : (text name : List ℕ) → Goes (text_rest text name)
 text_rest_grows text name =
-    picked_grows (λ heap. text_eq name (codes "length")) (λ heap. give (Int (pos (length text)))) (λ heap. look_up (Text text) name (reached_from heap.nodes 3)) (λ heap. give_grows (Int (pos (length text)))) (λ heap. look_up_grows (Text text) name (reached_from heap.nodes 3))
+    by_heap_grows (λ heap. if text_eq name (codes "length") then give (Int (pos (length text))) else look_up (Text text) name (reached_from heap.nodes STRING_PROTOTYPE))
+    (λ heap. chosen_grows (text_eq name (codes "length")) _ _ (give_grows (Int (pos (length text)))) (look_up_grows (Text text) name (reached_from heap.nodes STRING_PROTOTYPE)))
 
-pub node_rest_grows : (number : ℕ) (name : List ℕ) → Grows (node_rest number name)
+pub node_rest_grows : (number : ℕ) (name : List ℕ) → Goes (node_rest number name)
 node_rest_grows number name =
-    picked_grows (λ heap. is_length heap.nodes number name) (λ heap. give (Int (pos (length (elements_of heap.nodes number))))) (λ heap. look_up (At number) name (reached_from heap.nodes number)) (λ heap. give_grows (Int (pos (length (elements_of heap.nodes number))))) (λ heap. look_up_grows (At number) name (reached_from heap.nodes number))
+    by_heap_grows (λ heap. if is_length heap.nodes number name then give (Int (pos (length (elements_of heap.nodes number)))) else look_up (At number) name (reached_from heap.nodes number))
+    (λ heap. chosen_grows (is_length heap.nodes number name) _ _ (give_grows (Int (pos (length (elements_of heap.nodes number))))) (look_up_grows (At number) name (reached_from heap.nodes number)))
 
--- an access uses its key once
-used_begins : {A : Type 0} (keys used : List (List ℕ)) (answer : Answer A) → HasUsed (keys ++ used) answer → Begins keys (keys_of answer)
-used_begins keys used (Gave result heap) h = (used, h)
-used_begins keys used (Threw value heap) h = (used ++ codes "message" ∷ [], h ∙ append_assoc keys used (codes "message" ∷ []))
-used_begins keys used (Stopped why heap) h = (used, h)
+-- what goes on by the name that a key is
+outside_grows : {A : Type 0} (key : Value) → Goes (outside {A = A} key)
+outside_grows key = grows_then (named_key key) _ (named_grows key) (λ name. stop_grows NotInProfile)
 
-pub get_grows : (base key : Value) → Grows (get base key)
-get_grows base key = record { begins = λ heap. used_begins heap.keys (used_by heap.nodes base key) (get base key heap) (get_uses base key heap) }
+pub refuses_grows : Goes (not_writable {A = Unit})
+refuses_grows = error_grows TYPE_ERROR_PROTOTYPE (codes "not writable")
 
-pub set_grows : (base key value : Value) → Grows (set base key value)
-set_grows base key value = record { begins = λ heap. used_begins heap.keys (used_by heap.nodes base key) (set base key value heap) (set_uses base key value heap) }
+pub get_of_text_grows : (text : List ℕ) (key : Value) (place : Option ℕ) → Goes (get_of_text text key place)
+get_of_text_grows text key (Some place) = give_grows (unit_or_undefined (slice_get text place))
+get_of_text_grows text key None = grows_then (named_key key) (text_rest text) (named_grows key) (text_rest_grows text)
 
-pub delete_grows : (base key : Value) → Grows (delete base key)
-delete_grows base key = record { begins = λ heap. used_begins heap.keys (used_by heap.nodes base key) (delete base key heap) (delete_uses base key heap) }
+get_of_node_grows : (number : ℕ) (key : Value) (place : Option ℕ) → Goes (get_of_node number key place)
+get_of_node_grows number key (Some place) = by_heap_grows (λ heap. give (element_or_undefined (elements_of heap.nodes number) place)) (λ heap. give_grows (element_or_undefined (elements_of heap.nodes number) place))
+get_of_node_grows number key None = grows_then (named_key key) (node_rest number) (named_grows key) (node_rest_grows number)
+
+pub get_grows : (base key : Value) → Goes (get base key)
+get_grows Undefined key = error_grows TYPE_ERROR_PROTOTYPE (codes "no properties")
+get_grows Null key = error_grows TYPE_ERROR_PROTOTYPE (codes "no properties")
+get_grows (Truth b) key = outside_grows key
+get_grows (Int z) key = outside_grows key
+get_grows (Text text) key = get_of_text_grows text key (index_of key)
+get_grows (At number) key = by_heap_grows (λ heap. get_of_node number key (element_of heap.nodes number key)) (λ heap. get_of_node_grows number key (element_of heap.nodes number key))
+get_grows Empty key = stop_grows NotInProfile
+
+-- writing
+pub may_write_from_grows : (name : List ℕ) (from : ℕ) → Goes (may_write_from name from)
+may_write_from_grows name from = by_heap_grows (λ heap. may_write name (reached_from heap.nodes from)) (λ heap. may_write_grows name (reached_from heap.nodes from))
+
+pub put_unless_grows : (number : ℕ) (name : List ℕ) (value : Value) → Goes (put_unless_frozen number name value)
+put_unless_grows number name value =
+    by_heap_grows (λ heap. if is_frozen heap.nodes number then not_writable else put_own number name value)
+    (λ heap. chosen_grows (is_frozen heap.nodes number) _ _ refuses_grows (put_grows number name value))
+
+pub set_named_grows : (number : ℕ) (name : List ℕ) (value : Value) → Goes (set_named number name value)
+set_named_grows number name value = record {
+  on = λ heap.
+      (chosen_grows (is_length heap.nodes number name) _ _
+      (chosen_grows (is_frozen heap.nodes number) not_writable (stop NotInProfile) refuses_grows (stop_grows NotInProfile))
+      (grows_then (may_write name (reached_from heap.nodes number)) _ (may_write_grows name (reached_from heap.nodes number)) (λ done. put_unless_grows number name value))).on heap;
+}
+
+refused_grows : (key : Value) → Goes (refused key)
+refused_grows key = grows_then (named_key key) _ (named_grows key) (λ name. refuses_grows)
+
+set_element_grows : (number place : ℕ) (value : Value) → Goes (set_element_of number place value)
+set_element_grows number place value = record {
+  on = λ heap.
+      (chosen_grows (is_frozen heap.nodes number) _ _ refuses_grows
+      (chosen_grows (nat_lt place (length (elements_of heap.nodes number))) _ _ (change_grows (λ nodes. with_element nodes number place value))
+      (chosen_grows (place == length (elements_of heap.nodes number)) _ _ (push_grows number value) (stop_grows NotInProfile)))).on heap;
+}
+
+set_of_node_grows : (number : ℕ) (key value : Value) (place : Option ℕ) → Goes (set_of_node number key value place)
+set_of_node_grows number key value (Some place) = set_element_grows number place value
+set_of_node_grows number key value None = grows_then (named_key key) _ (named_grows key) (λ name. set_named_grows number name value)
+
+set_of_text_grows : (key : Value) (place : Option ℕ) → Goes (set_of_text key place)
+set_of_text_grows key (Some place) = refuses_grows
+set_of_text_grows key None = refused_grows key
+
+pub set_grows : (base key value : Value) → Goes (set base key value)
+set_grows Undefined key value = error_grows TYPE_ERROR_PROTOTYPE (codes "no properties")
+set_grows Null key value = error_grows TYPE_ERROR_PROTOTYPE (codes "no properties")
+set_grows (Truth b) key value = refused_grows key
+set_grows (Int z) key value = refused_grows key
+set_grows (Text text) key value = set_of_text_grows key (index_of key)
+set_grows (At number) key value = by_heap_grows (λ heap. set_of_node number key value (element_of heap.nodes number key)) (λ heap. set_of_node_grows number key value (element_of heap.nodes number key))
+set_grows Empty key value = stop_grows NotInProfile
+
+-- deleting
+pub without_grows : (number : ℕ) (name : List ℕ) → Goes (without number name)
+without_grows number name = grows_then (remove_own number name) _ (remove_grows number name) (λ removed. give_grows true)
+
+pub delete_named_grows : (number : ℕ) (name : List ℕ) → Goes (delete_named number name)
+delete_named_grows number name = record {
+  on = λ heap.
+      (chosen_grows (is_outside heap.nodes number name) (stop NotInProfile) _ (stop_grows NotInProfile)
+      (chosen_grows (is_kept heap.nodes number name) not_writable (without number name) (error_grows TYPE_ERROR_PROTOTYPE (codes "not writable")) (without_grows number name))).on heap;
+}
+
+delete_of_node_grows : (number : ℕ) (key : Value) (place : Option ℕ) → Goes (delete_of_node number key place)
+delete_of_node_grows number key (Some place) = stop_grows NotInProfile
+delete_of_node_grows number key None = grows_then (named_key key) (delete_named number) (named_grows key) (delete_named_grows number)
+
+delete_of_text_grows : (key : Value) (place : Option ℕ) → Goes (delete_of_text key place)
+delete_of_text_grows key (Some place) = stop_grows NotInProfile
+delete_of_text_grows key None = outside_grows key
+
+pub delete_grows : (base key : Value) → Goes (delete base key)
+delete_grows Undefined key = error_grows TYPE_ERROR_PROTOTYPE (codes "no properties")
+delete_grows Null key = error_grows TYPE_ERROR_PROTOTYPE (codes "no properties")
+delete_grows (Truth b) key = outside_grows key
+delete_grows (Int z) key = outside_grows key
+delete_grows (Text text) key = delete_of_text_grows key (index_of key)
+delete_grows (At number) key = by_heap_grows (λ heap. delete_of_node number key (element_of heap.nodes number key)) (λ heap. delete_of_node_grows number key (element_of heap.nodes number key))
+delete_grows Empty key = stop_grows NotInProfile

@@ -1,14 +1,10 @@
-pub mod Called
 pub mod Chains
 pub mod Counting
 pub mod Finding
-pub mod Follows
 pub mod Growing
-pub mod Indexing
 pub mod Looking
 pub mod Naming
 pub mod Putting
 pub mod Removing
 pub mod Sizing
 pub mod Spelling
-pub mod Throwing

@@ -6,13 +6,14 @@ use Rattle.snap_graph.specs.declared.value.Value.TheVariants.{Undefined}
 use Rattle.spec_values.specs.Access.{found_or, is_size, is_special, kind_of, look_up, reached_from, size_of}
 use Rattle.spec_values.specs.Answer.{Action, Heap, give, stop}
 use Rattle.spec_values.specs.Operations.{own_value}
-use Rattle.snap_object.specs.declared.fault.Abrupt.{Abrupt}
+use Rattle.snap_action.specs.declared.fault.Abrupt.{Abrupt}
 use Rattle.snap_object.specs.declared.search.Found.{Found}
 use Rattle.snap_object.specs.declared.search.Found.TheVariants.{Special, Size, Own, Absent}
-use Rattle.snap_object.specs.Gives.{Gives, Seen, standing}
+use Rattle.snap_store.specs.declared.store.Store.{Ghosts}
+use Rattle.snap_action.specs.Gives.{Gives, Shows, standing}
 use Rattle.snap_object.specs.Parts.{looked_up}
 use Rattle.snap_object.specs.Search.{found_along, own_or}
-use Rattle.snap_object.proofs.Follows.{alike}
+use Rattle.snap_action.proofs.Follows.{alike}
 
 -- what is read where this was found
 abbrev pub read : Value → Found Value → Action Value
@@ -33,7 +34,7 @@ looks_up base name [] heap = refl
 looks_up base name (number ∷ rest) heap =
     read_first base heap number (is_special (kind_of heap.nodes number) name) (is_size number name) (own_value heap.nodes number name) (look_up base name rest) (found_along heap.nodes name rest) (looks_up base name rest heap)
 
-pub reads : {H R : Type 0} {leaves_out : List ℕ → Bool} {first last : Seen} {view : R → Value} {meaning : H → Value} {result : Result R (Abrupt H)} (base : Value) (name : List ℕ) (from : ℕ) (found : Found Value)
-    → found ≡ found_along first.nodes name (reached_from first.nodes from) → Gives leaves_out first last view meaning result (read base found) → Gives leaves_out first last view meaning result (looked_up base name from)
-reads {first = first} base name from found e h =
-    alike (read base found) (looked_up base name from) (λ keys. ap (λ (f : Found Value). read base f (standing first keys)) e ∙ sym (looks_up base name (reached_from first.nodes from) (standing first keys))) h
+pub reads : {S H R : Type 0} {store : Ghosts S H} {first last : S} {shows : Shows R (Value)} {result : Result R (Abrupt H)} (base : Value) (name : List ℕ) (from : ℕ) (found : Found Value)
+    → found ≡ found_along (store.view first).nodes name (reached_from (store.view first).nodes from) → Gives store first last shows result (read base found) → Gives store first last shows result (looked_up base name from)
+reads {store = store} {first = first} base name from found e h =
+    alike (read base found) (looked_up base name from) (λ keys. ap (λ (f : Found Value). read base f (standing (store.view first) keys)) e ∙ sym (looks_up base name (reached_from (store.view first).nodes from) (standing (store.view first) keys))) h

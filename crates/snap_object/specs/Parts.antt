@@ -2,18 +2,29 @@
 use Rattle.std.specs.Prelude.{ℕ, ◌&&◌, ◌||◌, pos, Bool, true, List, codes, length, Option, None, Some, is_some, if◌then◌else◌}
 use Rattle.std.specs.Str.{bytes_eq as text_eq}
 use Rattle.snap_base.specs.declared.stop.Stop.TheVariants.{NotInProfile}
+use Rattle.snap_graph.specs.declared.intrinsic.TheConstants.{STRING_PROTOTYPE}
 use Rattle.snap_graph.specs.declared.node.Node.{Node}
 use Rattle.snap_graph.specs.declared.value.Value.{Value}
-use Rattle.snap_graph.specs.declared.value.Value.TheVariants.{Int, Node as At, Text}
-use Rattle.spec_values.specs.Access.{element_or_undefined, is_length, is_size, is_special, kind_of, look_up, may_write, named_key, not_writable, reached_from}
-use Rattle.spec_values.specs.Answer.{◌>>=◌, Action, Gave, give, stop}
+use Rattle.snap_graph.specs.declared.value.Value.TheVariants.{Undefined, Null, Bool as Truth, Int, Node as At, Text, Empty}
+use Rattle.spec_values.specs.Access.{element_or_undefined, is_length, is_size, is_special, kind_of, look_up, may_write, named_key, no_properties, not_writable, reached_from}
+use Rattle.spec_values.specs.Answer.{◌>>=◌, Action, give, stop}
 use Rattle.snap_object.specs.declared.search.Found.{Found}
 use Rattle.snap_object.specs.declared.search.Found.TheVariants.{Special, Size, Own, Absent}
-use Rattle.spec_values.specs.Operations.{elements_of, is_frozen, own_value, put_own, with_element, with_nodes, without_own}
+use Rattle.spec_values.specs.Operations.{elements_of, is_frozen, own_value, put_own, remove_own}
 
 -- a key is used, and what follows is not in this profile
 abbrev pub outside : {A : Type 0} → Value → Action A
 outside key = named_key key >>= λ _. stop NotInProfile
+
+-- an access by a key that has no text in this profile
+abbrev pub unspelled : {A : Type 0} → Value → Action A
+unspelled Undefined = no_properties
+unspelled Null = no_properties
+unspelled (Truth b) = stop NotInProfile
+unspelled (Int z) = stop NotInProfile
+unspelled (Text text) = stop NotInProfile
+unspelled (At number) = stop NotInProfile
+unspelled Empty = stop NotInProfile
 
 -- looking a key up from a node on
 abbrev pub looked_up : Value → List ℕ → ℕ → Action Value
@@ -26,7 +37,7 @@ element_read number place heap = give (element_or_undefined (elements_of heap.no
 -- reading a name from a text, and from a node
 abbrev pub text_rest : List ℕ → List ℕ → Action Value
 text_rest text name heap =
-    (if text_eq name (codes "length") then give (Int (pos (length text))) else look_up (Text text) name (reached_from heap.nodes 3)) heap
+    (if text_eq name (codes "length") then give (Int (pos (length text))) else look_up (Text text) name (reached_from heap.nodes STRING_PROTOTYPE)) heap
 
 abbrev pub node_rest : ℕ → List ℕ → Action Value
 node_rest number name heap =
@@ -47,11 +58,7 @@ is_kept nodes number name = is_size number name || (is_some (own_value nodes num
 
 -- a property is removed, if there is one
 abbrev pub without : ℕ → List ℕ → Action Bool
-without number name heap = Gave true (with_nodes heap (without_own heap.nodes number name))
-
--- an element is written
-abbrev pub element_written : ℕ → ℕ → Value → Action Unit
-element_written number place value heap = Gave tt (with_nodes heap (with_element heap.nodes number place value))
+without number name = remove_own number name >>= λ _. give true
 
 -- a frozen node refuses a write
 abbrev pub unless_frozen : ℕ → Action Unit
@@ -68,6 +75,10 @@ may_write_from name from heap = may_write name (reached_from heap.nodes from) he
 -- a property is put on a node that is not frozen
 abbrev pub put_unless_frozen : ℕ → List ℕ → Value → Action Unit
 put_unless_frozen number name value heap = (if is_frozen heap.nodes number then not_writable else put_own number name value) heap
+
+-- a write goes on along the prototypes
+abbrev pub set_along : ℕ → List ℕ → Value → Action Unit
+set_along number name value = may_write_from name number >>= λ _. put_unless_frozen number name value
 
 -- a key is used, and the write refused
 abbrev pub refused : Value → Action Unit

@@ -1,25 +1,21 @@
 //! Array indices (ECMA-262, 6.1.7).
 
-ghost use Rattle.std.specs.Prelude.{◌≡◌, ◌<◌, ◌≤◌, None, true, false, IfSome, length};
-ghost use Rattle.std.specs.Char.{digit_value};
-ghost use Rattle.std.specs.Str.Parse.{AllDigits, digits_value};
-ghost use Rattle.snap_graph.specs.OwnKeys.{array_index};
-ghost use Rattle.snap_object.specs.Indices.{IsShort};
-ghost use Rattle.spec_values.specs.Access.{index_of, number_index};
+ghost use Rattle.std.specs.Prelude.{◌≡◌, ◌<◌, Some, IfSome, length};
+ghost use Rattle.snap_graph.specs.declared.value.Value.TheVariants.{Text};
+ghost use Rattle.spec_values.specs.Access.{element_of, index_of, number_index};
 
+use crate::words::is_array;
+use snap_action::Name;
 use snap_graph::Value;
+use snap_store::{INDEX_END, Store};
 
-// The least number that is no array index.
-const INDEX_END: u64 = 4_294_967_295;
-
-/// The array index that a key is, as an integer or as its text.
-pub(crate) fn index_of(key: &Value) -> Option<u32>
-    ensures { result ≡ index_of key.now }
+/// The array index that an integer is as a key. No other key is looked at.
+pub(crate) fn integer_index(key: &Value) -> Option<u32>
+    ensures { IfSome result (λ place. index_of key.now ≡ Some place) }
 {
     match key {
         Value::Int(number) => number_index(*number),
-        Value::Text(text) => array_index(text.units()),
-        Value::Undefined | Value::Null | Value::Bool(_) | Value::Node(_) | Value::Empty => None,
+        _ => None,
     }
 }
 
@@ -27,61 +23,21 @@ pub(crate) fn index_of(key: &Value) -> Option<u32>
 fn number_index(number: i64) -> Option<u32>
     ensures { result ≡ number_index number }
 {
-    if number >= 0 && number.unsigned_abs() < INDEX_END {
+    if number >= 0 && number.unsigned_abs() < u64::from(INDEX_END) {
         Some(number as u32)
     } else {
         None
     }
 }
 
-// The array index that a text is.
-fn array_index(units: &[u16]) -> Option<u32>
-    ensures { result ≡ array_index units.now }
+/// The element that a name names, which is an array's alone.
+pub(crate) fn element_of<S: Store>(store: &S, node: u32, name: &Name) -> Option<u32>
+    requires { node < length (S.view store.now).nodes }
+    ensures { result ≡ element_of (S.view store.now).nodes node (Text name.now.text) }
 {
-    if !is_short(units) {
-        return None;
-    }
-    let number = number_of(units)?;
-    if number < INDEX_END {
-        Some(number as u32)
+    if is_array(store.kind(node)) {
+        name.index()
     } else {
         None
-    }
-}
-
-// Whether a text has 1 to 10 units and no zero in front.
-fn is_short(units: &[u16]) -> bool
-    ensures short { result ≡ true → IsShort units.now }
-    ensures other { result ≡ false → IsShort units.now → ⊥ }
-{
-    match units {
-        [] => false,
-        [0x30] => true,
-        [first, ..] => *first != 0x30 && units.len() <= 10,
-    }
-}
-
-// The number that digits are, if all units are digits.
-fn number_of(units: &[u16]) -> Option<u64>
-    requires { length units.now ≤ 10 }
-    ensures some { IfSome result (λ number. AllDigits 10 units.now × (number ≡ digits_value 10 units.now)) }
-    ensures none { result ≡ None → AllDigits 10 units.now → ⊥ }
-{
-    let mut number = 0;
-    for unit in units {
-        number = number * 10 + digit(*unit)?;
-    }
-    Some(number)
-}
-
-// The value of a digit.
-fn digit(unit: u16) -> Option<u64>
-    ensures some { IfSome result (λ digit. (digit ≡ digit_value unit) × (digit < 10)) }
-    ensures none { result ≡ None → digit_value unit < 10 → ⊥ }
-{
-    if unit < 0x30 || unit > 0x39 {
-        None
-    } else {
-        Some(u64::from(unit - 0x30))
     }
 }

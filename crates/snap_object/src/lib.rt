@@ -1,19 +1,18 @@
 //! Property access over any store.
 #![tactic(auto)]
 
-mod calls;
 mod deleting;
 mod errors;
-mod fault;
 mod indices;
 mod names;
+mod outside;
 mod reading;
 mod search;
 mod sizes;
 mod words;
 mod writing;
 
-pub use deleting::delete;
-pub use fault::Abrupt;
-pub use reading::get;
-pub use writing::set;
+pub use deleting::{delete, delete_by_name};
+pub use reading::{get, get_by_name};
+pub use snap_action::{Abrupt, Name};
+pub use writing::{set, set_by_name};

@@ -1,44 +1,48 @@
 //! `size` of Maps and Sets.
 
-ghost use Rattle.std.specs.Prelude.{◌≡◌, ◌<◌, IfOk, count_by, length};
+ghost use Rattle.std.specs.Prelude.{◌≡◌, ◌<◌, pos, IfOk, count_by, length};
+ghost use Rattle.snap_graph.specs.declared.value.Value.TheVariants.{Int};
 ghost use Rattle.snap_graph.specs.Lawful.{record_keys};
 ghost use Rattle.snap_graph.specs.Values.{IsPlace};
-ghost use Rattle.snap_object.specs.Gives.{Gives, Owns, seen};
+ghost use Rattle.snap_action.specs.Gives.{Gives, as_held};
 ghost use Rattle.snap_object.specs.Sizes.{TellsWhether, entries_of};
 ghost use Rattle.spec_values.specs.Access.{entry_count, is_there, kind_of, size_of};
 ghost use Rattle.spec_values.specs.Operations.{elements_of};
 
-use crate::calls::{held, number};
 use crate::errors::type_error;
-use crate::fault::Abrupt;
+use snap_action::{Abrupt, hold_value};
 use snap_base::NoMemory;
-use snap_graph::{Kind, Value};
+use snap_graph::{Kind, Value, intrinsic};
 use snap_store::Store;
 use std::alloc::Global;
 
-/// The size of a base, read at Map.prototype, node 4, or at Set.prototype, node 5.
+/// The size of a base, read at Map.prototype or at Set.prototype.
 pub(crate) fn size_of<S: Store>(
     alloc: Global,
     store: &mut S,
     prototype: u32,
     base: &Value,
 ) -> Result<S::Held, Abrupt<S::Held>>
-    requires { IsPlace (length (S.nodes store.old)) base.now }
-    ensures gives { Gives (S.leaves_out store.old) (seen (S.nodes store.old) (S.private_nodes store.old) (S.log store.old))
-        (seen (S.nodes store.new) (S.private_nodes store.new) (S.log store.new)) (S.meaning store.new) (S.meaning store.new) result (size_of prototype base.now) }
-    ensures owned { Owns (S.owns store.new) (S.owns store.new) result }
-    ensures later { S.later store.old store.new }
+    requires { IsPlace (length (S.view store.old).nodes) base.now }
+    ensures { Gives S.Store store.old store.new (as_held S.Store store.new) result (size_of prototype base.now) }
 {
     match entries_of(store, prototype, base)? {
-        Some(count) => held(store, &number(count)),
+        Some(count) => hold_value(store, &count_value(count)),
         None => Err(type_error(alloc, store, b"wrong receiver")),
     }
 }
 
+/// A count as a value.
+pub(crate) fn count_value(count: u32) -> Value
+    ensures { result ≡ Int (pos count) }
+{
+    Value::Int(i64::from(count))
+}
+
 // How many entries a base has, where it is what the prototype is of.
 fn entries_of<S: Store>(store: &S, prototype: u32, base: &Value) -> Result<Option<u32>, NoMemory>
-    requires { IsPlace (length (S.nodes store.now)) base.now }
-    ensures { IfOk result (λ count. entries_of (S.nodes store.now) prototype base.now ≡ count) }
+    requires { IsPlace (length (S.view store.now).nodes) base.now }
+    ensures { IfOk result (λ count. entries_of (S.view store.now).nodes prototype base.now ≡ count) }
 {
     match base {
         Value::Node(node) => entry_count(store, prototype, *node),
@@ -48,20 +52,20 @@ fn entries_of<S: Store>(store: &S, prototype: u32, base: &Value) -> Result<Optio
 
 // How many entries a node has, where it is what the prototype is of.
 fn entry_count<S: Store>(store: &S, prototype: u32, node: u32) -> Result<Option<u32>, NoMemory>
-    requires { node < length (S.nodes store.now) }
-    ensures { IfOk result (λ count. entry_count prototype (kind_of (S.nodes store.now) node) (elements_of (S.nodes store.now) node) ≡ count) }
+    requires { node < length (S.view store.now).nodes }
+    ensures { IfOk result (λ count. entry_count prototype (kind_of (S.view store.now).nodes node) (elements_of (S.view store.now).nodes node) ≡ count) }
 {
     match store.kind(node) {
-        Kind::Map if prototype == 4 => Ok(Some(records(store, node)?)),
-        Kind::Set if prototype == 5 => Ok(Some(members(store, node)?)),
+        Kind::Map if prototype == intrinsic::MAP_PROTOTYPE => Ok(Some(records(store, node)?)),
+        Kind::Set if prototype == intrinsic::SET_PROTOTYPE => Ok(Some(members(store, node)?)),
         _ => Ok(None),
     }
 }
 
 // How many records of a Map were not removed. Its elements are a key and a value in turn.
 fn records<S: Store>(store: &S, node: u32) -> Result<u32, NoMemory>
-    requires { node < length (S.nodes store.now) }
-    ensures { IfOk result (λ count. count ≡ count_by is_there (record_keys (elements_of (S.nodes store.now) node))) }
+    requires { node < length (S.view store.now).nodes }
+    ensures { IfOk result (λ count. count ≡ count_by is_there (record_keys (elements_of (S.view store.now).nodes node))) }
 {
     let mut count = 0;
     for i in 0..store.count(node) / 2 {
@@ -74,8 +78,8 @@ fn records<S: Store>(store: &S, node: u32) -> Result<u32, NoMemory>
 
 // How many members of a Set were not removed.
 fn members<S: Store>(store: &S, node: u32) -> Result<u32, NoMemory>
-    requires { node < length (S.nodes store.now) }
-    ensures { IfOk result (λ count. count ≡ count_by is_there (elements_of (S.nodes store.now) node)) }
+    requires { node < length (S.view store.now).nodes }
+    ensures { IfOk result (λ count. count ≡ count_by is_there (elements_of (S.view store.now).nodes node)) }
 {
     let mut count = 0;
     for i in 0..store.count(node) {
@@ -88,9 +92,9 @@ fn members<S: Store>(store: &S, node: u32) -> Result<u32, NoMemory>
 
 // Whether an element is a value, and not the mark of one that was removed.
 fn is_there<S: Store>(store: &S, node: u32, i: u32) -> Result<bool, NoMemory>
-    requires number { node < length (S.nodes store.now) }
-    requires place { i < length (elements_of (S.nodes store.now) node) }
-    ensures { IfOk result (λ there. TellsWhether (elements_of (S.nodes store.now) node) i there) }
+    requires number { node < length (S.view store.now).nodes }
+    requires place { i < length (elements_of (S.view store.now).nodes node) }
+    ensures { IfOk result (λ there. TellsWhether (elements_of (S.view store.now).nodes node) i there) }
 {
     let element = store.element(node, i);
     Ok(!matches!(store.value(&element)?, Value::Empty))

@@ -1,10 +1,11 @@
 //! Names that access treats on their own.
 
-ghost use Rattle.std.specs.Prelude.{◌≡◌, Some};
+ghost use Rattle.std.specs.Prelude.{◌≡◌, ◌<◌, Some, length};
 ghost use Rattle.std.specs.Str.{bytes_eq as text_eq};
-ghost use Rattle.spec_values.specs.Access.{is_array, is_size, is_special};
+ghost use Rattle.spec_values.specs.Access.{is_array, is_length, is_size, is_special};
 
-use snap_graph::Kind;
+use snap_graph::{Kind, intrinsic};
+use snap_store::Store;
 use snap_text::{StrView, Units};
 
 /// Whether a text is this word.
@@ -37,7 +38,7 @@ pub(crate) fn is_special(kind: Kind, name: &Units) -> bool
 pub(crate) fn is_size(node: u32, name: &Units) -> bool
     ensures { result ≡ is_size node name.now }
 {
-    (node == 4 || node == 5) && is_word(name, b"size")
+    (node == intrinsic::MAP_PROTOTYPE || node == intrinsic::SET_PROTOTYPE) && is_word(name, b"size")
 }
 
 /// Whether this is the kind of arrays.
@@ -45,4 +46,12 @@ pub(crate) fn is_array(kind: Kind) -> bool
     ensures { result ≡ is_array (Some kind) }
 {
     matches!(kind, Kind::Array)
+}
+
+/// Whether a name is `length` of an array.
+pub(crate) fn is_length<S: Store>(store: &S, node: u32, name: &Units) -> bool
+    requires { node < length (S.view store.now).nodes }
+    ensures { result ≡ is_length (S.view store.now).nodes node name.now }
+{
+    is_array(store.kind(node)) && is_word(name, b"length")
 }

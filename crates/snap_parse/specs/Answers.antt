@@ -1,5 +1,6 @@
 -- What the parser answers beside what a source is read as.
 use Rattle.std.specs.Prelude.{◌≡◌, ℕ, ◌<◌, ◌⊎◌, List, length, Result, Ok, Err}
+use Rattle.snap_base.specs.declared.limits.TheConstants.{MOST_SOURCE_BYTES}
 use Rattle.snap_ast.specs.declared.tree.Tree.{Tree}
 use Rattle.spec_tokens.specs.declared.fault.LexFault.TheVariants as lex
 use Rattle.spec_grammar.specs.Outcome.{Nested, Syntax}
@@ -33,7 +34,7 @@ IsRefusal source (fault.Lex lex.NoMemory) = ⊥
 IsRefusal source (fault.Lex found) = read_tree source ≡ Err (NoTokens found)
 IsRefusal source (fault.Syntax at) = read_tree source ≡ Err (NoTree Syntax at)
 IsRefusal source (fault.Nested at) = read_tree source ≡ Err (NoTree Nested at)
-IsRefusal source fault.TooLong = 1048576 < length source
+IsRefusal source fault.TooLong = MOST_SOURCE_BYTES < length source
 IsRefusal source fault.NoMemory = Unit {0}
 
 -- why a source has no tree, as the language says it: no tokens, no tree of any height, none within the levels, or too many bytes
@@ -41,7 +42,7 @@ abbrev pub HasCause : List ℕ → SourceFault → Type 0
 HasCause source (fault.Lex found) = HasFault source found
 HasCause source (fault.Syntax at) = (tree : Tree) → HasDeepTree source tree → ⊥
 HasCause source (fault.Nested at) = (tree : Tree) → HasTree source tree → ⊥
-HasCause source fault.TooLong = 1048576 < length source
+HasCause source fault.TooLong = MOST_SOURCE_BYTES < length source
 HasCause source fault.NoMemory = ⊥
 
 -- the tree that comes with the tokens of a source

@@ -15,6 +15,7 @@ ghost use Rattle.snap_ast.specs.declared.tree.Tree.{Tree};
 use crate::fault::SourceFault;
 use crate::reader::script;
 use snap_ast::Tree;
+use snap_base::MOST_SOURCE_BYTES;
 use snap_cursor::{Cursor, ReadFault};
 use snap_lex::{LexFault, Token, tokens};
 use snap_phrase::tree_of;
@@ -28,9 +29,6 @@ pub struct Parsed<'s> {
     /// Its tree.
     pub tree: Tree,
 }
-
-/// How many bytes a source may have.
-const MOST_BYTES: usize = 1_048_576;
 
 /// Why there is no tree, with the place.
 fn at_place(fault: ReadFault, at: u32) -> SourceFault
@@ -73,7 +71,7 @@ fn with_tokens<'s>(alloc: Global, list: Vec<Token<'s>>, end: u32) -> Result<Pars
 /// The tokens and the tree of a source that is not too long.
 #[tactic(auto, using(crate::proofs::Tokens::are_read), unfolding(spec_grammar::specs::Source::read_tree))]
 fn read_source(alloc: Global, source: &[u8]) -> Result<Parsed<'_>, SourceFault>
-    requires { length source.now ≤ 1048576 }
+    requires { length source.now ≤ MOST_SOURCE_BYTES }
     ensures answers { Answers (read_tree source.now) (tree_in result) }
     ensures tokens { IfOk result (λ parsed. lexemes source.now ≡ Ok (views parsed.tokens.items)) }
 {
@@ -88,14 +86,14 @@ fn read_source(alloc: Global, source: &[u8]) -> Result<Parsed<'_>, SourceFault>
 
 /// The tokens of a source and the tree that it is read as, or why it is read as none.
 fn read(alloc: Global, source: &[u8]) -> Result<Parsed<'_>, SourceFault>
-    ensures too_long { (result ≡ Err SourceFault.TooLong) ↔ (1048576 < length source.now) }
+    ensures too_long { (result ≡ Err SourceFault.TooLong) ↔ (MOST_SOURCE_BYTES < length source.now) }
     ensures tokens { IfOk result (λ parsed. lexemes source.now ≡ Ok (views parsed.tokens.items)) }
     ensures found { IfOk result (λ parsed. read_tree source.now ≡ Ok parsed.tree) }
-    ensures given { (tree : Tree) → length source.now ≤ 1048576 → read_tree source.now ≡ Ok tree → GivesTree (tree_in result) tree }
+    ensures given { (tree : Tree) → length source.now ≤ MOST_SOURCE_BYTES → read_tree source.now ≡ Ok tree → GivesTree (tree_in result) tree }
     ensures refused { IfErr result (λ fault. IsRefusal source.now fault) }
-    ensures told { (fault : Refused) → length source.now ≤ 1048576 → read_tree source.now ≡ Err fault → GivesRefusal (tree_in result) fault }
+    ensures told { (fault : Refused) → length source.now ≤ MOST_SOURCE_BYTES → read_tree source.now ≡ Err fault → GivesRefusal (tree_in result) fault }
 {
-    if source.len() > MOST_BYTES {
+    if source.len() > MOST_SOURCE_BYTES as usize {
         return Err(SourceFault::TooLong);
     }
     read_source(alloc, source)
@@ -109,11 +107,11 @@ fn read(alloc: Global, source: &[u8]) -> Result<Parsed<'_>, SourceFault>
 /// As `parse`.
 pub fn parse_with_tokens(alloc: Global, source: &[u8]) -> Result<Parsed<'_>, SourceFault>
     // It is too long exactly past this many bytes.
-    ensures too_long { (result ≡ Err SourceFault.TooLong) ↔ (1048576 < length source.now) }
+    ensures too_long { (result ≡ Err SourceFault.TooLong) ↔ (MOST_SOURCE_BYTES < length source.now) }
 
     // A tree is answered exactly where the source has it, unless memory runs out, and it is lawful.
     ensures ok { IfOk result (λ parsed. HasTree source.now parsed.tree) }
-    ensures some { (tree : Tree) → length source.now ≤ 1048576 → HasTree source.now tree → GivesTree (tree_in result) tree }
+    ensures some { (tree : Tree) → length source.now ≤ MOST_SOURCE_BYTES → HasTree source.now tree → GivesTree (tree_in result) tree }
     ensures lawful { IfOk result (λ parsed. Lawful parsed.tree) }
 
     // With it come the tokens of the source.
@@ -122,13 +120,13 @@ pub fn parse_with_tokens(alloc: Global, source: &[u8]) -> Result<Parsed<'_>, Sou
     // A refusal has its cause; a source without tokens is refused by its fault, and one whose tree is
     // too high as nested.
     ensures cause { IfErr result (λ fault. (fault ≡ SourceFault.NoMemory) ⊎ HasCause source.now fault) }
-    ensures lex { (fault : LexFault) → length source.now ≤ 1048576 → HasFault source.now fault → GivesRefusal (tree_in result) (NoTokens fault) }
-    ensures deep { (tree : Tree) → length source.now ≤ 1048576 → HasDeepTree source.now tree → GivesTree (tree_in result) tree ⊎ IsNested (tree_in result) }
+    ensures lex { (fault : LexFault) → length source.now ≤ MOST_SOURCE_BYTES → HasFault source.now fault → GivesRefusal (tree_in result) (NoTokens fault) }
+    ensures deep { (tree : Tree) → length source.now ≤ MOST_SOURCE_BYTES → HasDeepTree source.now tree → GivesTree (tree_in result) tree ⊎ IsNested (tree_in result) }
 
     // The same by reading from the front, which gives the place of a refusal.
     ensures found { IfOk result (λ parsed. read_tree source.now ≡ Ok parsed.tree) }
     ensures refused { IfErr result (λ fault. IsRefusal source.now fault) }
-    ensures told { (fault : Refused) → length source.now ≤ 1048576 → read_tree source.now ≡ Err fault → GivesRefusal (tree_in result) fault }
+    ensures told { (fault : Refused) → length source.now ≤ MOST_SOURCE_BYTES → read_tree source.now ≡ Err fault → GivesRefusal (tree_in result) fault }
 {
     read(alloc, source)
 }
@@ -138,27 +136,27 @@ pub fn parse_with_tokens(alloc: Global, source: &[u8]) -> Result<Parsed<'_>, Sou
 ///
 /// # Errors
 ///
-/// `TooLong` past 1,048,576 bytes; `Lex` where the source has no tokens; `Syntax` where it has no tree; `Nested`
+/// `TooLong` past `MOST_SOURCE_BYTES`, 1,048,576 bytes; `Lex` where the source has no tokens; `Syntax` where it has no tree; `Nested`
 /// where each tree of it has a node with more than 100 nodes round it; `NoMemory` where memory runs out.
 pub fn parse(alloc: Global, source: &[u8]) -> Result<Tree, SourceFault>
     // It is too long exactly past this many bytes.
-    ensures too_long { (result ≡ Err SourceFault.TooLong) ↔ (1048576 < length source.now) }
+    ensures too_long { (result ≡ Err SourceFault.TooLong) ↔ (MOST_SOURCE_BYTES < length source.now) }
 
     // A tree is answered exactly where the source has it, unless memory runs out, and it is lawful.
     ensures ok { IfOk result (λ tree. HasTree source.now tree) }
-    ensures some { (tree : Tree) → length source.now ≤ 1048576 → HasTree source.now tree → GivesTree result tree }
+    ensures some { (tree : Tree) → length source.now ≤ MOST_SOURCE_BYTES → HasTree source.now tree → GivesTree result tree }
     ensures lawful { IfOk result Lawful }
 
     // A refusal has its cause; a source without tokens is refused by its fault, and one whose tree is
     // too high as nested.
     ensures cause { IfErr result (λ fault. (fault ≡ SourceFault.NoMemory) ⊎ HasCause source.now fault) }
-    ensures lex { (fault : LexFault) → length source.now ≤ 1048576 → HasFault source.now fault → GivesRefusal result (NoTokens fault) }
-    ensures deep { (tree : Tree) → length source.now ≤ 1048576 → HasDeepTree source.now tree → GivesTree result tree ⊎ IsNested result }
+    ensures lex { (fault : LexFault) → length source.now ≤ MOST_SOURCE_BYTES → HasFault source.now fault → GivesRefusal result (NoTokens fault) }
+    ensures deep { (tree : Tree) → length source.now ≤ MOST_SOURCE_BYTES → HasDeepTree source.now tree → GivesTree result tree ⊎ IsNested result }
 
     // The same by reading from the front, which gives the place of a refusal.
     ensures found { IfOk result (λ tree. read_tree source.now ≡ Ok tree) }
     ensures refused { IfErr result (λ fault. IsRefusal source.now fault) }
-    ensures told { (fault : Refused) → length source.now ≤ 1048576 → read_tree source.now ≡ Err fault → GivesRefusal result fault }
+    ensures told { (fault : Refused) → length source.now ≤ MOST_SOURCE_BYTES → read_tree source.now ≡ Err fault → GivesRefusal result fault }
 {
     match parse_with_tokens(alloc, source) {
         Ok(parsed) => {

@@ -8,6 +8,7 @@ use crate::row::Row;
 use snap_ast::{
     AssignOperator, BinaryOperator, Form, Items, Named, Property, UnaryOperator, UpdateOperator,
 };
+use snap_text::Units;
 use std::alloc::{AllocError, Global};
 
 /// A node without children.
@@ -174,7 +175,7 @@ pub fn arrow_body(at: u32, parameters: Items<Named>, row: Row<u32>) -> Result<Ph
 }
 
 /// A member.
-pub fn member_node(object: Phrase, key: Items<u8>) -> Result<Phrase, AllocError>
+pub fn member_node(object: Phrase, key: Units) -> Result<Phrase, AllocError>
     ensures { IfOk result (λ phrase. phrase ≡ spec.member_node object key) }
 {
     let at = object.at();

@@ -5,7 +5,8 @@ ghost use Rattle.spec_grammar.specs.Phrase as spec;
 ghost use Rattle.spec_grammar.specs.Phrase.{◌▸◌};
 ghost use Rattle.spec_grammar.specs.Nodes.{is_access_form, is_reference, name_of, name_of_form, takes};
 
-use snap_ast::{Form, Items, Named, TreeNode, UnaryOperator};
+use snap_ast::{Form, Named, TreeNode, UnaryOperator};
+use snap_text::Units;
 use std::alloc::{AllocError, Global};
 use std::marker::Model;
 
@@ -53,7 +54,7 @@ fn name_in(alloc: Global, node: &TreeNode) -> Result<Option<Named>, AllocError>
 {
     match &node.form {
         Form::Name { name } => Ok(Some(Named {
-            name: Items::from_vec(Vec::from_slice(alloc, name.as_slice())?),
+            name: Units::from_vec(Vec::from_slice(alloc, name.units())?),
             at: node.at,
         })),
         _ => Ok(None),

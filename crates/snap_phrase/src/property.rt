@@ -7,6 +7,7 @@ use crate::node::name_node;
 use crate::phrase::Phrase;
 use crate::row::Row;
 use snap_ast::{Binding, ConstBinding, Items, Named, Property, PropertyKey};
+use snap_text::Units;
 use std::alloc::{AllocError, Global};
 
 /// A property with its value.
@@ -30,8 +31,8 @@ pub fn with_shorthand(
 ) -> Result<Row<Property>, AllocError>
     ensures { IfOk result (λ longer. longer ≡ spec.with_shorthand row named) }
 {
-    let bytes = Vec::from_slice(alloc, named.name.as_slice())?;
-    let key = PropertyKey::Word(Items::from_vec(bytes));
+    let word = Units::from_vec(Vec::from_slice(alloc, named.name.units())?);
+    let key = PropertyKey::Word(word);
     let value = name_node(alloc, named)?;
     with_property(row, key, value)
 }

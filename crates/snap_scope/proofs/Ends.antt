@@ -1,6 +1,6 @@
 -- What is known before any node is visited, and what once all are.
 use Rattle.std.proofs.Common.{◌≡◌, ℕ, zero, suc, ◌<◌, false, List, [], ◌∷◌, map, length, replicate, refl, sym, subst, ap, ◌∙◌, arith}
-use Rattle.std.specs.Prelude.{slice_get, None, Some}
+use Rattle.std.specs.Prelude.{slice_get, Option, None, Some}
 use Rattle.std.specs.Option.{option_map}
 use Rattle.std.proofs.lemmas.List.{length-map, length-replicate}
 use Rattle.std.proofs.lemmas.Option.{slice_get-map, slice_get_within}
@@ -20,6 +20,7 @@ use Rattle.spec_scopes.specs.Resolution.{AreScopes, Resolution}
 use Rattle.spec_scopes.specs.Round.{IsAmong}
 use Rattle.spec_scopes.specs.Scopes.{Scope, Slot, script_names, script_scope, slot_of}
 use Rattle.spec_scopes.specs.Told.{first_repeat}
+use Rattle.spec_scopes.specs.declared.place.SlotPlace.{SlotPlace}
 
 got_replicate : {A : Type 0} → (n i : ℕ) (x : A) → i < n → slice_get (replicate n x) i ≡ Some x
 got_replicate zero i x below = absurd (omega arith)
@@ -28,7 +29,7 @@ got_replicate (suc n) (suc i) x below = got_replicate n i x (omega arith)
 
 -- before any node is visited
 pub started : (tree : Tree) (count : ℕ) (slots : List Slot) (pass : Pass) → Lawful tree → count ≡ length tree.nodes → slots ≡ map slot_of (script_names tree).names → first_repeat (script_names tree).names ≡ None → IsStart count slots pass
-    → Visited tree pass.chains pass.contexts.items pass.entries.items 0
+    → Visited tree pass.chains pass.contexts.items pass.entries.items pass.places.items 0
 started tree count slots pass lawful size slots_are apart is =
     let script : ◌≡◌ {A = Scope} (record { kind = Script; slots = slots }) (script_scope tree) = ap (λ (s : List Slot). record { kind = Script; slots = s }) slots_are in
     let scopes : length pass.chains.scopes ≡ 1 = ap (λ (l : List Scope). length l) is.0 in
@@ -58,24 +59,24 @@ each_place : {A : Type 0} → (P : A → Type 0) (xs : List A) → ((i : ℕ) (x
 each_place P [] h = tt
 each_place P (x ∷ xs) h = (h 0 x refl, each_place P xs (λ i y e. h (suc i) y e))
 
-module _ (tree : Tree) (lawful : Lawful tree) (table : Table) (contexts : List Context) (entries : List NodeEntry) (is : Visited tree table contexts entries (length tree.nodes)) where
+module _ (tree : Tree) (lawful : Lawful tree) (table : Table) (contexts : List Context) (entries : List NodeEntry) (found : List (Option SlotPlace)) (is : Visited tree table contexts entries found (length tree.nodes)) where
   -- the entries are of the table
-  pub entries_right : Each (IsEntry table) entries
-  entries_right = each_place (IsEntry table) entries (λ i entry e.
+  pub entries_right : Each (IsEntry table (length found)) entries
+  entries_right = each_place (IsEntry table (length found)) entries (λ i entry e.
       let below : i < length tree.nodes = omega (arith, slice_get_within entries i entry e, is.many) in
       let node = got tree.nodes i below in
       let round = some_round tree i lawful below in
       let known = is.known i node.0 round.0 below node.1 round.1 in
       let same : known.0 ≡ entry = cc in
-      subst (IsEntry table) same known.2.is_entry)
+      subst (IsEntry table (length found)) same known.2.is_entry)
 
   -- and stand for the scopes of the tree
-  pub scopes_right : (resolution : Resolution) → resolution ≡ record { script = scope_in table.scopes 0; nodes = map (scopes_at table) entries } → AreScopes tree resolution
+  pub scopes_right : (resolution : Resolution) → resolution ≡ record { script = scope_in table.scopes 0; nodes = map (scopes_at table found) entries } → AreScopes tree resolution
   scopes_right resolution e =
       subst (AreScopes tree) (sym e) (record {
         script = is.script;
-        count = length-map entries (scopes_at table) ∙ is.many;
+        count = length-map entries (scopes_at table found) ∙ is.many;
         nodes = λ number node steps at stands.
             (let known = is.known number node steps (slice_get_within tree.nodes number node at) at stands in
-            slice_get-map (scopes_at table) entries number ∙ ap (option_map (scopes_at table)) known.1 ∙ ap Some known.2.scopes_are);
+            slice_get-map (scopes_at table found) entries number ∙ ap (option_map (scopes_at table found)) known.1 ∙ ap Some known.2.scopes_are);
       })

@@ -62,10 +62,10 @@ added entries after slots name key is_constant view none same e =
     let last : after ≡ entries ++ (key, is_constant) ∷ [] = e ∙ insert_last (λ x y. text_eq x.items y.items) entries key is_constant (none_passes (λ (entry : Entry). text_eq key.items entry.0.items) entries apart) in
     ap (map slot_of) last ∙ map-append slot_of entries ((key, is_constant) ∷ []) ∙ cc
 
-here : {X : Type 0} (p : X → Bool) (xs : List X) (n : ℕ) → position_or_len p xs ≡ n → n < length xs → position p xs ≡ Some n
+pub here : {X : Type 0} (p : X → Bool) (xs : List X) (n : ℕ) → position_or_len p xs ≡ n → n < length xs → position p xs ≡ Some n
 here p xs n e h = rw (e, lt-ltb n (length xs) h) refl
 
-ended : {X : Type 0} (p : X → Bool) (xs : List X) → position_or_len p xs ≡ length xs → position p xs ≡ None
+pub ended : {X : Type 0} (p : X → Bool) (xs : List X) → position_or_len p xs ≡ length xs → position p xs ≡ None
 ended p xs e = rw (e, le-ltb (length xs) (length xs) (omega arith)) refl
 
 -- a name that is put where the entries end was not there, and one that is put before was

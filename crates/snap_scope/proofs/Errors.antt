@@ -15,6 +15,7 @@ use Rattle.spec_scopes.specs.Round.{Step}
 use Rattle.spec_scopes.specs.Scopes.{names_apart, script_names}
 use Rattle.spec_scopes.specs.Told.{bad_target, early_error, error_at, first_answer, first_repeat, node_error, only_if, stray_jump}
 use Rattle.spec_scopes.specs.declared.fault.ScopeFault.{ScopeFault}
+use Rattle.spec_scopes.specs.declared.place.SlotPlace.{SlotPlace}
 use Rattle.spec_scopes.specs.declared.fault.ScopeFault.TheVariants.{Duplicate, BadTarget, StrayJump, NoMemory}
 
 -- what is told where one early error is told, is told where another is, if that is the same
@@ -50,9 +51,9 @@ unfolding early_error
 script_first tree fault h apart =
     ap (λ (one : Option ScopeFault). option_or one (first_answer (error_at tree) tree.nodes)) (is_one (first_repeat (script_names tree).names) fault h apart)
 
-module _ (tree : Tree) (table : Table) (contexts : List Context) (entries : List NodeEntry) where
+module _ (tree : Tree) (table : Table) (contexts : List Context) (entries : List NodeEntry) (found : List (Option SlotPlace)) where
   -- then that of the next node
-  pub node_next : (number : ℕ) (node : TreeNode) (fault : ScopeFault) → Visited tree table contexts entries number → slice_get tree.nodes number ≡ Some node → IsTold (error_at tree number node) fault → IsTold (early_error tree) fault
+  pub node_next : (number : ℕ) (node : TreeNode) (fault : ScopeFault) → Visited tree table contexts entries found number → slice_get tree.nodes number ≡ Some node → IsTold (error_at tree number node) fault → IsTold (early_error tree) fault
   unfolding early_error
   node_next number node fault is at h = told_by (error_at tree number node) (early_error tree) fault next h
     where
@@ -61,6 +62,6 @@ module _ (tree : Tree) (table : Table) (contexts : List Context) (entries : List
           ap (λ (one : Option ScopeFault). option_or one (first_answer (error_at tree) tree.nodes)) is.apart ∙ first_is (error_at tree) tree.nodes number node at is.clean same e
 
   -- and none, once all are visited
-  pub none_left : Visited tree table contexts entries (length tree.nodes) → early_error tree ≡ None
+  pub none_left : Visited tree table contexts entries found (length tree.nodes) → early_error tree ≡ None
   unfolding early_error
   none_left is = ap (λ (one : Option ScopeFault). option_or one (first_answer (error_at tree) tree.nodes)) is.apart ∙ none_is (error_at tree) tree.nodes is.clean

@@ -19,15 +19,15 @@ each_at P [] i x each below e = absurd (omega arith)
 each_at P (y ∷ ys) zero x each below e = subst P (sym e) each.0
 each_at P (y ∷ ys) (suc i) x each below e = each_at P ys i x each.1 (omega arith) e
 
-each_more : {A : Type 0} → (P : A → Type 0) (xs : List A) (x : A) → Each P xs → P x → Each P (xs ++ x ∷ [])
+pub each_more : {A : Type 0} → (P : A → Type 0) (xs : List A) (x : A) → Each P xs → P x → Each P (xs ++ x ∷ [])
 each_more P [] x each one = (one, tt)
 each_more P (y ∷ ys) x each one = (each.0, each_more P ys x each.1 one)
 
-each_by : {A : Type 0} → (P Q : A → Type 0) → ((x : A) → P x → Q x) → (xs : List A) → Each P xs → Each Q xs
+pub each_by : {A : Type 0} → (P Q : A → Type 0) → ((x : A) → P x → Q x) → (xs : List A) → Each P xs → Each Q xs
 each_by P Q by [] each = tt
 each_by P Q by (x ∷ xs) each = (by x each.0, each_by P Q by xs each.1)
 
-map_same : {A B : Type 0} → (f g : A → B) (P : A → Type 0) → ((x : A) → P x → f x ≡ g x) → (xs : List A) → Each P xs → map f xs ≡ map g xs
+pub map_same : {A B : Type 0} → (f g : A → B) (P : A → Type 0) → ((x : A) → P x → f x ≡ g x) → (xs : List A) → Each P xs → map f xs ≡ map g xs
 map_same f g P same [] each = refl
 map_same {A} {B} f g P same (x ∷ xs) each = ap (λ (y : B). y ∷ map f xs) (same x each.0) ∙ ap (λ (ys : List B). g x ∷ ys) (map_same f g P same xs each.1)
 

@@ -1,8 +1,11 @@
 pub mod Apart
+pub mod Behind
 pub mod Ends
 pub mod Entries
 pub mod Errors
+pub mod Fews
 pub mod Levels
+pub mod NarrowNames
 pub mod Next
 pub mod Nodes
 pub mod Numbers

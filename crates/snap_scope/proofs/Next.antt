@@ -14,6 +14,7 @@ use Rattle.snap_scope.specs.declared.context.NodeEntry.{NodeEntry}
 use Rattle.spec_scopes.proofs.Standing.{child_below, few_round}
 use Rattle.spec_scopes.proofs.Told.{stands_here}
 use Rattle.spec_scopes.specs.Told.{round_of}
+use Rattle.spec_scopes.specs.declared.place.SlotPlace.{SlotPlace}
 use Rattle.spec_scopes.specs.Round.{IsAmong, Stands, Step, chain, holds, inside, numbers}
 use Rattle.spec_scopes.specs.Scopes.{Scope, made}
 
@@ -28,9 +29,9 @@ pub record Next (tree : Tree) (table : Table) (contexts : List Context) (number 
   pub context_at : slice_get contexts number ≡ Some context
   pub right : Right tree table context (round_of tree number)
 
-pub next : (tree : Tree) (table : Table) (contexts : List Context) (entries : List NodeEntry) (number : ℕ) (nodes : List TreeNode) (node : TreeNode) (context : Context) → Lawful tree → number < length tree.nodes → Visited tree table contexts entries number
+pub next : (tree : Tree) (table : Table) (contexts : List Context) (entries : List NodeEntry) (found : List (Option SlotPlace)) (number : ℕ) (nodes : List TreeNode) (node : TreeNode) (context : Context) → Lawful tree → number < length tree.nodes → Visited tree table contexts entries found number
     → nodes ≡ tree.nodes → node ≡ get_or nodes number node → context ≡ get_or contexts number context → Next tree table contexts number node context
-next tree table contexts entries number nodes node context lawful below is all node_is context_is =
+next tree table contexts entries found number nodes node context lawful below is all node_is context_is =
     let node_at : slice_get tree.nodes number ≡ Some node = slice_get-get_or tree.nodes number node below ∙ ap Some (sym (node_is ∙ ap (λ (l : List TreeNode). get_or l number node) all)) in
     let stands : Stands tree number (round_of tree number) = stands_here tree lawful number node node_at in
     let context_at : slice_get contexts number ≡ Some context = slice_get-get_or contexts number context (omega (arith, is.long)) ∙ ap Some (sym context_is) in
@@ -38,7 +39,7 @@ next tree table contexts entries number nodes node context lawful below is all n
       stands = stands;
       node_at = node_at;
       context_at = context_at;
-      right = next_right tree table contexts entries number context lawful is context_at stands;
+      right = next_right tree table contexts entries found number context lawful is context_at stands;
     }
 
 one_longer : (b : Bool) (own : Option Scope) (outer : List Scope) → length (if b then inside own outer else outer) ≤ suc (length outer)

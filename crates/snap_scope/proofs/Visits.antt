@@ -1,5 +1,5 @@
 -- What one more visited node leaves.
-use Rattle.std.proofs.Common.{◌≡◌, inl, inr, ℕ, zero, suc, ◌+◌, ◌<◌, Bool, true, false, not, ◌&&◌, ◌||◌, if◌then◌else◌, List, [], ◌∷◌, ◌++◌, map, length, get_or, refl, sym, subst, ap, ◌∙◌, arith, length-append}
+use Rattle.std.proofs.Common.{◌≡◌, inl, inr, ℕ, zero, suc, ◌+◌, ◌-◌, ◌<◌, ◌≤◌, take, drop, Bool, true, false, not, ◌&&◌, ◌||◌, if◌then◌else◌, List, [], ◌∷◌, ◌++◌, map, length, get_or, refl, sym, subst, ap, ◌∙◌, arith, length-append}
 use Rattle.std.specs.Prelude.{slice_get, Option, None, Some}
 use Rattle.std.specs.Option.{option_map}
 use Rattle.std.proofs.lemmas.Bool.{cases_lt}
@@ -11,7 +11,7 @@ use Rattle.snap_ast.specs.declared.tree.Tree.{Tree}
 use Rattle.snap_ast.specs.declared.tree.TreeNode.{TreeNode}
 use Rattle.snap_graph.specs.declared.kind.ScopeKind.{ScopeKind}
 use Rattle.snap_scope.specs.Chains.{Table, chain_in, nothing, scope_in}
-use Rattle.snap_scope.specs.Visit.{Enters, IsBelow, Known, KnownAt, Right, RightAt, Visited, chain_of_child, child_context}
+use Rattle.snap_scope.specs.Visit.{Enters, IsBelow, Known, KnownAt, Right, RightAt, Visited, chain_of_child, child_context, entry_at}
 use Rattle.snap_scope.specs.declared.context.Context.{Context}
 use Rattle.snap_scope.specs.declared.context.NodeEntry.{NodeEntry}
 use Rattle.spec_scopes.proofs.Standing.{child_below, no_parent, one_parent}
@@ -19,7 +19,9 @@ use Rattle.spec_scopes.proofs.Spans.{one_node}
 use Rattle.spec_scopes.proofs.Firsts.{none_more}
 use Rattle.spec_scopes.specs.Names.{Declared}
 use Rattle.spec_scopes.specs.Round.{AtTop, IsAmong, Stands, Step, Within, chain, holds, inside, is_function, is_loop, numbers, step}
+use Rattle.spec_scopes.specs.Slots.{places}
 use Rattle.spec_scopes.specs.Told.{error_at}
+use Rattle.spec_scopes.specs.declared.place.SlotPlace.{SlotPlace}
 use Rattle.spec_scopes.specs.Scopes.{Scope, Slot, made, made_of, names_of, own_names, scope_of, slot_of}
 
 got_left : {A : Type 0} → (xs ys : List A) (i : ℕ) (x : A) → slice_get xs i ≡ Some x → slice_get (xs ++ ys) i ≡ Some x
@@ -67,13 +69,32 @@ below_grown : (old new : Table) (own : Option ℕ) → Grown old new → IsBelow
 below_grown old new None more is = (tt, refl)
 below_grown old new (Some own) more is = let it = more.scopes own is in (it.0, ap Some it.1)
 
-known_grown : (tree : Tree) (old new : Table) (entry : NodeEntry) (node : TreeNode) (steps : List Step) → Grown old new → Known tree old entry node steps → Known tree new entry node steps
-known_grown tree old new entry node steps more is =
+-- what stands in a list stands in a longer one
+pub between_left : {A : Type 0} → (xs ys : List A) (first count : ℕ) → first + count ≤ length xs → take count (drop first (xs ++ ys)) ≡ take count (drop first xs)
+between_left [] ys zero zero within = refl
+between_left [] ys zero (suc count) within = absurd (omega arith)
+between_left [] ys (suc first) count within = absurd (omega arith)
+between_left (x ∷ xs) ys zero zero within = refl
+between_left {A} (x ∷ xs) ys zero (suc count) within = ap (λ (zs : List A). x ∷ zs) (between_left xs ys zero count (omega arith))
+between_left (x ∷ xs) ys (suc first) count within = between_left xs ys first count (omega arith)
+
+all_taken : {A : Type 0} → (ys : List A) → take (length ys) ys ≡ ys
+all_taken [] = refl
+all_taken {A} (y ∷ ys) = ap (λ (zs : List A). y ∷ zs) (all_taken ys)
+
+pub between_end : {A : Type 0} → (xs ys : List A) → take (length ys) (drop (length xs) (xs ++ ys)) ≡ ys
+between_end [] ys = all_taken ys
+between_end (x ∷ xs) ys = between_end xs ys
+
+known_grown : (tree : Tree) (old new : Table) (found more_found : List (Option SlotPlace)) (entry : NodeEntry) (node : TreeNode) (steps : List Step) → Grown old new → Known tree old found entry node steps → Known tree new (found ++ more_found) entry node steps
+known_grown tree old new found more_found entry node steps more is =
     let round = more.chains entry.chain is.is_entry.0 in
     let own = below_grown old new entry.own more is.is_entry.1 in
     record {
-      is_entry = (round.0, own.0);
-      scopes_are = ap (λ (c : List Scope). record { round = c; own = option_map (scope_in new.scopes) entry.own }) round.1 ∙ ap (λ (o : Option Scope). record { round = chain_in old entry.chain; own = o }) own.1 ∙ is.scopes_are;
+      is_entry = (round.0, own.0, omega (arith, is.is_entry.2, length-append found more_found));
+      scopes_are = ap (λ (c : List Scope). record { round = c; own = option_map (scope_in new.scopes) entry.own; names = take entry.count (drop entry.first (found ++ more_found)) }) round.1
+          ∙ ap (λ (o : Option Scope). record { round = chain_in old entry.chain; own = o; names = take entry.count (drop entry.first (found ++ more_found)) }) own.1
+          ∙ ap (λ (p : List (Option SlotPlace)). record { round = chain_in old entry.chain; own = option_map (scope_in old.scopes) entry.own; names = p }) (between_left found more_found entry.first entry.count is.is_entry.2) ∙ is.scopes_are;
     }
 
 -- ---- the scope that a node makes
@@ -123,13 +144,13 @@ right_at : (tree : Tree) (table : Table) (contexts : List Context) (number : ℕ
 right_at tree table contexts number context steps e h = let same : h.0 ≡ context = cc in subst (λ (c : Context). Right tree table c steps) same h.2
 
 -- the context of the next node is right
-pub next_right : (tree : Tree) (table : Table) (contexts : List Context) (entries : List NodeEntry) (number : ℕ) (context : Context) → Lawful tree → Visited tree table contexts entries number → slice_get contexts number ≡ Some context → {steps : List Step} → Stands tree number steps → Right tree table context steps
-next_right tree table contexts entries number context lawful is e (AtTop among) = right_at tree table contexts number context [] e (is.top number among)
-next_right tree table contexts entries number context lawful is e (Within {parent = parent} {node = node} {round = round} stands at among) =
+pub next_right : (tree : Tree) (table : Table) (contexts : List Context) (entries : List NodeEntry) (found : List (Option SlotPlace)) (number : ℕ) (context : Context) → Lawful tree → Visited tree table contexts entries found number → slice_get contexts number ≡ Some context → {steps : List Step} → Stands tree number steps → Right tree table context steps
+next_right tree table contexts entries found number context lawful is e (AtTop among) = right_at tree table contexts number context [] e (is.top number among)
+next_right tree table contexts entries found number context lawful is e (Within {parent = parent} {node = node} {round = round} stands at among) =
     right_at tree table contexts number context (step node.form number ∷ round) e (is.inner parent number node round (child_below tree parent number node lawful at among).0 at among stands)
 
-module _ (tree : Tree) (lawful : Lawful tree) (number : ℕ) (node : TreeNode) (at : slice_get tree.nodes number ≡ Some node) (old new : Table) (contexts after : List Context) (entries : List NodeEntry) (context : Context) (own : Option ℕ)
-    (is : Visited tree old contexts entries number) (context_at : slice_get contexts number ≡ Some context)
+module _ (tree : Tree) (lawful : Lawful tree) (number : ℕ) (node : TreeNode) (at : slice_get tree.nodes number ≡ Some node) (old new : Table) (contexts after : List Context) (entries : List NodeEntry) (found : List (Option SlotPlace)) (context : Context) (own : Option ℕ)
+    (is : Visited tree old contexts entries found number) (context_at : slice_get contexts number ≡ Some context)
     (enters : Enters context.chain (own_names tree.nodes node.form).kind (map slot_of (own_names tree.nodes node.form).names) own old new)
     (long : length after ≡ length contexts) (children : (child : ℕ) → IsAmong (numbers node.form) child → slice_get after child ≡ Some (child_context node.form context own child))
     (others : (other : ℕ) → (IsAmong (numbers node.form) other → ⊥) → slice_get after other ≡ slice_get contexts other)
@@ -150,32 +171,42 @@ module _ (tree : Tree) (lawful : Lawful tree) (number : ℕ) (node : TreeNode) (
         | inl before ↦ kept other (step another.form other ∷ round) (λ child. let same : parent ≡ number = one_parent tree lawful other parent number another node e among at child in absurd (omega arith)) (is.inner parent other another round before e among stands)
         | inr not_before ↦ (let here : parent ≡ number = omega arith in
             let same : node ≡ another = one_node tree.nodes number node another at (subst (λ (n : ℕ). slice_get tree.nodes n ≡ Some another) here e) in
-            let right : Right tree old context round = next_right tree old contexts entries number context lawful is context_at (subst (λ (n : ℕ). Stands tree n round) here stands) in
+            let right : Right tree old context round = next_right tree old contexts entries found number context lawful is context_at (subst (λ (n : ℕ). Stands tree n round) here stands) in
             subst (λ (n : TreeNode). RightAt tree new after other (step n.form other ∷ round)) same
             (let child : IsAmong (numbers node.form) other = subst (λ (n : TreeNode). IsAmong (numbers n.form) other) (sym same) among in
             (child_context node.form context own other, children other child, child_right tree node.form context own other old new round right enters)))
       ]
 
-  known_here : (steps : List Step) → Stands tree number steps → Known tree new (record { chain = context.chain; own = own }) node steps
+  -- the places of its names
+  abbrev mine_found : List (Option SlotPlace)
+  mine_found = places (chain_in old context.chain) node.form
+
+  abbrev entry : NodeEntry
+  entry = entry_at context own (length found) (length mine_found)
+
+  known_here : (steps : List Step) → Stands tree number steps → Known tree new (found ++ mine_found) entry node steps
   known_here steps stands =
-      let right : Right tree old context steps = next_right tree old contexts entries number context lawful is context_at stands in
+      let right : Right tree old context steps = next_right tree old contexts entries found number context lawful is context_at stands in
       let it = more.chains context.chain right.below in
       let mine = own_is context.chain (own_names tree.nodes node.form).kind (own_names tree.nodes node.form).names own old new is.paired enters in
       record {
-        is_entry = (it.0, mine.0);
-        scopes_are = ap (λ (c : List Scope). record { round = c; own = option_map (scope_in new.scopes) own }) (it.1 ∙ right.chain_is) ∙ ap (λ (o : Option Scope). record { round = chain tree steps; own = o }) mine.1;
+        is_entry = (it.0, mine.0, omega (arith, length-append found mine_found));
+        scopes_are = ap (λ (p : List (Option SlotPlace)). record { round = chain_in new context.chain; own = option_map (scope_in new.scopes) own; names = p }) (between_end found mine_found)
+            ∙ ap (λ (c : List Scope). record { round = c; own = option_map (scope_in new.scopes) own; names = mine_found }) (it.1 ∙ right.chain_is)
+            ∙ ap (λ (o : Option Scope). record { round = chain tree steps; own = o; names = mine_found }) mine.1
+            ∙ ap (λ (c : List Scope). record { round = chain tree steps; own = made tree.nodes node.form; names = places c node.form }) right.chain_is;
       }
 
-  known_more : (other : ℕ) (another : TreeNode) (steps : List Step) → other < number + 1 → slice_get tree.nodes other ≡ Some another → Stands tree other steps → KnownAt tree new (entries ++ record { chain = context.chain; own = own } ∷ []) other another steps
+  known_more : (other : ℕ) (another : TreeNode) (steps : List Step) → other < number + 1 → slice_get tree.nodes other ≡ Some another → Stands tree other steps → KnownAt tree new (entries ++ entry ∷ []) (found ++ mine_found) other another steps
   known_more other another steps below e stands =
-      elim (cases_lt other number) as (λ _. KnownAt tree new (entries ++ record { chain = context.chain; own = own } ∷ []) other another steps) [
-        | inl before ↦ (let h = is.known other another steps before e stands in (h.0, got_left entries (record { chain = context.chain; own = own } ∷ []) other h.0 h.1, known_grown tree old new h.0 another steps more h.2))
+      elim (cases_lt other number) as (λ _. KnownAt tree new (entries ++ entry ∷ []) (found ++ mine_found) other another steps) [
+        | inl before ↦ (let h = is.known other another steps before e stands in (h.0, got_left entries (entry ∷ []) other h.0 h.1, known_grown tree old new found mine_found h.0 another steps more h.2))
         | inr not_before ↦ (let here : number ≡ other = omega arith in
             let same : node ≡ another = one_node tree.nodes number node another at (subst (λ (n : ℕ). slice_get tree.nodes n ≡ Some another) (sym here) e) in
             let end : length entries ≡ other = is.many ∙ here in (
-              record { chain = context.chain; own = own },
-              subst (λ (n : ℕ). slice_get (entries ++ record { chain = context.chain; own = own } ∷ []) n ≡ Some (record { chain = context.chain; own = own })) end (got_end entries (record { chain = context.chain; own = own })),
-              subst (λ (n : TreeNode). Known tree new (record { chain = context.chain; own = own }) n steps) same (known_here steps (subst (λ (n : ℕ). Stands tree n steps) (sym here) stands)),
+              entry,
+              subst (λ (n : ℕ). slice_get (entries ++ entry ∷ []) n ≡ Some entry) end (got_end entries entry),
+              subst (λ (n : TreeNode). Known tree new (found ++ mine_found) entry n steps) same (known_here steps (subst (λ (n : ℕ). Stands tree n steps) (sym here) stands)),
             ))
       ]
 
@@ -187,12 +218,14 @@ module _ (tree : Tree) (lawful : Lawful tree) (number : ℕ) (node : TreeNode) (
       let c : length new.chains ≡ length (old.chains ++ (scope ∷ chain_in old chain) ∷ []) = ap (λ (l : List (List Scope)). length l) h.3 in
       omega (arith, s, c, is.paired, length-append old.scopes (scope ∷ []), length-append old.chains ((scope ∷ chain_in old chain) ∷ []))
 
-  pub visited_more : (now : List NodeEntry) → now ≡ entries ++ record { chain = context.chain; own = own } ∷ [] → Visited tree new after now (number + 1)
-  visited_more now e =
+  pub visited_more : (now : List NodeEntry) (placed : List (Option SlotPlace)) → now ≡ entries ++ entry_at context own (length found) (length placed - length found) ∷ [] → placed ≡ found ++ places (chain_in old context.chain) node.form → Visited tree new after now placed (number + 1)
+  visited_more now placed e d =
       let script = more.scopes 0 is.some in
-      subst (λ (now : List NodeEntry). Visited tree new after now (number + 1)) (sym e) (record {
+      let count : length placed - length found ≡ length mine_found = omega (arith, ap (λ (l : List (Option SlotPlace)). length l) d, length-append found mine_found) in
+      let now_is : now ≡ entries ++ entry ∷ [] = e ∙ ap (λ (n : ℕ). entries ++ entry_at context own (length found) n ∷ []) count in
+      subst (λ (placed : List (Option SlotPlace)). Visited tree new after now placed (number + 1)) (sym d) (subst (λ (now : List NodeEntry). Visited tree new after now (found ++ mine_found) (number + 1)) (sym now_is) (record {
         long = long ∙ is.long;
-        many = omega (arith, is.many, length-append entries (record { chain = context.chain; own = own } ∷ []));
+        many = omega (arith, is.many, length-append entries (entry ∷ []));
         paired = paired_more own (own_names tree.nodes node.form).kind (map slot_of (own_names tree.nodes node.form).names) context.chain enters;
         some = omega (arith, script.0);
         script = script.1 ∙ is.script;
@@ -201,4 +234,4 @@ module _ (tree : Tree) (lawful : Lawful tree) (number : ℕ) (node : TreeNode) (
         inner = inner_right;
         known = known_more;
         clean = none_more (error_at tree) tree.nodes number node is.clean at clean;
-      })
+      }))

@@ -1,6 +1,8 @@
 -- Declared names, as the code has them.
-use Rattle.std.specs.Prelude.{◌≡◌, ℕ, Bool, true, false, List, [], ◌∷◌, ◌++◌, Option, map, position, None, Some}
+use Rattle.std.specs.Prelude.{◌≡◌, ℕ, ◌<◌, Bool, true, false, All, List, [], ◌∷◌, ◌++◌, Option, map, position, slice_get, None, Some}
 use Rattle.std.specs.Str.{bytes_eq as text_eq}
+use Rattle.snap_ast.specs.Lawful.{HasWords}
+use Rattle.snap_ast.specs.declared.tree.TreeNode.{TreeNode}
 use Rattle.snap_scope.specs.declared.names.Name.{Name}
 use Rattle.spec_scopes.specs.declared.fault.ScopeFault.{ScopeFault}
 use Rattle.spec_scopes.specs.declared.fault.ScopeFault.TheVariants.{Duplicate, BadTarget, StrayJump, NoMemory}
@@ -12,6 +14,21 @@ declared_of name = record { named = name.named.now; is_constant = name.is_consta
 
 abbrev pub all_declared : List Name → List Declared
 all_declared names = map declared_of names
+
+-- each unit of a text fits a byte
+abbrev pub IsNarrow : List ℕ → Type 0
+IsNarrow text = All (λ unit. unit < 256) text
+
+abbrev pub AreNarrow : List Declared → Type 0
+AreNarrow names = All (λ declared. IsNarrow declared.named.name) names
+
+-- the words of each node are such as a source has
+abbrev pub HaveWords : List TreeNode → Type 0
+HaveWords nodes = (number : ℕ) (node : TreeNode) → slice_get nodes number ≡ Some node → HasWords node.form
+
+-- the names without their places
+abbrev pub names_in : List Declared → List (List ℕ)
+names_in list = map (λ declared. declared.named.name) list
 
 -- a name is added behind the slots, or has one of them already
 abbrev pub Adds : List ℕ → Bool → List Slot → Bool → List Slot → Type 0

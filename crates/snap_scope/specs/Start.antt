@@ -6,4 +6,4 @@ use Rattle.spec_scopes.specs.Scopes.{Slot}
 
 abbrev pub IsStart : ℕ → List Slot → Pass → Type 0
 IsStart count slots pass = (pass.chains.scopes ≡ record { kind = Script; slots = slots } ∷ []) × (pass.chains.chains ≡ (record { kind = Script; slots = slots } ∷ []) ∷ [])
-    × (pass.contexts.items ≡ replicate count (record { chain = 0; in_loop = false; in_function = false })) × (pass.entries.items ≡ [])
+    × (pass.contexts.items ≡ replicate count (record { chain = 0; in_loop = false; in_function = false })) × (pass.entries.items ≡ []) × (pass.places.items ≡ [])

@@ -17,13 +17,17 @@ pub(crate) struct Context {
     pub in_function: bool,
 }
 
-/// The scopes of a node, by their numbers.
+/// The scopes of a node and the places of its names, by their numbers.
 #[derive(Clone, Copy, Debug)]
 pub(crate) struct NodeEntry {
     /// The chain round it.
     pub chain: u32,
     /// The scope that it makes.
     pub own: Option<u32>,
+    /// Where the places of the names that it mentions begin.
+    pub first: u32,
+    /// How many they are.
+    pub count: u32,
 }
 
 /// Whether a node is a function.

@@ -1,11 +1,12 @@
 //! The scope that a node makes, and what its children have from it.
 
 ghost use Rattle.std.specs.Prelude.{◌≡◌, ◌<◌, ◌^◌, ◌++◌, ◌∷◌, [], ℕ, List, Option, None, Some, map, length, slice_get, OnOk, IfOk, IfErr};
+ghost use Rattle.snap_ast.specs.Lawful.{HasWords};
 ghost use Rattle.snap_ast.specs.Words.{Each};
 ghost use Rattle.snap_graph.specs.declared.kind.ScopeKind.{ScopeKind};
 ghost use Rattle.snap_scope.specs.Chains.{chain_in};
 ghost use Rattle.snap_scope.specs.Faults.{IsTold};
-ghost use Rattle.snap_scope.specs.Names.{all_declared, slots_in};
+ghost use Rattle.snap_scope.specs.Names.{all_declared, slots_in, AreNarrow, HaveWords};
 ghost use Rattle.snap_scope.specs.Visit.{child_context, Enters};
 ghost use Rattle.spec_scopes.specs.Round.{IsAmong};
 ghost use Rattle.spec_scopes.specs.Scopes.{names_apart, own_names, slot_of};
@@ -24,6 +25,7 @@ use std::alloc::Global;
 
 // The slots of names, of which no two may be the same, or nothing where there are no names.
 fn some_slots(alloc: Global, names: &[Name<'_>]) -> Result<Option<Slots>, ScopeFault>
+    requires { AreNarrow (all_declared names.now) }
     ensures slots { IfOk result (λ slots. slots_in slots ≡ map slot_of (all_declared names.now)) }
     ensures apart { OnOk result (first_repeat (all_declared names.now) ≡ None) }
     ensures err { IfErr result (IsTold (first_repeat (all_declared names.now))) }
@@ -44,6 +46,8 @@ fn apart_slots<'t>(
     form: &'t Form,
     names: &mut Vec<Name<'t>>,
 ) -> Result<Option<Slots>, ScopeFault>
+    requires nodes { HaveWords nodes.now }
+    requires words { HasWords form.now }
     ensures slots { IfOk result (λ slots. slots_in slots ≡ map slot_of (names_apart nodes.now form.now)) }
     ensures apart { OnOk result (first_repeat (names_apart nodes.now form.now) ≡ None) }
     ensures err { IfErr result (IsTold (first_repeat (names_apart nodes.now form.now))) }
@@ -62,6 +66,8 @@ fn catch_slots<'t>(
     form: &'t Form,
     names: &mut Vec<Name<'t>>,
 ) -> Result<Slots, NoMemory>
+    requires nodes { HaveWords nodes.now }
+    requires words { HasWords form.now }
     ensures { IfOk result (λ slots. slots ≡ map slot_of (own_names nodes.now form.now).names) }
 {
     names.clear();
@@ -80,6 +86,8 @@ pub(crate) fn own_slots<'t>(
     form: &'t Form,
     names: &mut Vec<Name<'t>>,
 ) -> Result<Option<Slots>, ScopeFault>
+    requires nodes { HaveWords nodes.now }
+    requires words { HasWords form.now }
     ensures slots { IfOk result (λ slots. slots_in slots ≡ map slot_of (own_names nodes.now form.now).names) }
     ensures apart { OnOk result (first_repeat (names_apart nodes.now form.now) ≡ None) }
     ensures err { IfErr result (IsTold (first_repeat (names_apart nodes.now form.now))) }

@@ -71,8 +71,8 @@ fn put_consts<'t>(bindings: &'t [ConstBinding], out: &mut Vec<Name<'t>>) -> Resu
     Ok(())
 }
 
-// The names that a statement declares in the scope round it.
-fn put_declared<'t>(form: &'t Form, out: &mut Vec<Name<'t>>) -> Result<(), NoMemory>
+/// Adds the names that a statement declares in the scope round it.
+pub(crate) fn put_declared<'t>(form: &'t Form, out: &mut Vec<Name<'t>>) -> Result<(), NoMemory>
     ensures { OnOk result (all_declared out.new.items ≡ all_declared out.old.items ++ declares form.now) }
 {
     match form {

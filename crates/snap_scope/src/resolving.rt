@@ -25,6 +25,7 @@ use std::alloc::Global;
 
 // The slots of the names at the top of a script.
 fn script_slots(alloc: Global, tree: &Tree) -> Result<Slots, ScopeFault>
+    requires { Lawful tree.now }
     ensures slots { IfOk result (λ slots. slots ≡ map slot_of (script_names tree.now).names) }
     ensures apart { OnOk result (first_repeat (script_names tree.now).names ≡ None) }
     ensures err { IfErr result (IsTold (first_repeat (script_names tree.now).names)) }
@@ -51,15 +52,17 @@ fn start<'t>(alloc: Global, count: usize, slots: Slots) -> Result<Pass<'t>, NoMe
         chains,
         contexts,
         entries: Vec::with_capacity(alloc, count)?,
+        places: Vec::new(alloc),
         children: Vec::new(alloc),
         names: Vec::new(alloc),
+        bytes: Vec::new(alloc),
     })
 }
 
 fn visit_all<'t>(alloc: Global, tree: &'t Tree, pass: &mut Pass<'t>) -> Result<(), ScopeFault>
     requires lawful { Lawful tree.now }
-    requires start { Visited tree.now pass.old.chains pass.old.contexts.items pass.old.entries.items 0 }
-    ensures ok { OnOk result (Visited tree.now pass.new.chains pass.new.contexts.items pass.new.entries.items (length tree.now.nodes)) }
+    requires start { Visited tree.now pass.old.chains pass.old.contexts.items pass.old.entries.items pass.old.places.items 0 }
+    ensures ok { OnOk result (Visited tree.now pass.new.chains pass.new.contexts.items pass.new.entries.items pass.new.places.items (length tree.now.nodes)) }
     ensures err { IfErr result (IsTold (early_error tree.now)) }
 {
     for number in 0..tree.nodes.as_slice().len() {
@@ -88,9 +91,10 @@ fn resolve_from(alloc: Global, tree: &Tree, slots: Slots) -> Result<Scopes, Scop
             let Pass {
                 chains,
                 entries,
+                places,
                 ..
             } = pass;
-            Ok(Scopes::of(chains, entries))
+            Ok(Scopes::of(chains, entries, places))
         }
         Err(fault) => Err(fault),
     }

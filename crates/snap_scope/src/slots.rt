@@ -4,28 +4,30 @@ ghost use Rattle.std.specs.Prelude.{◌≡◌, [], length, IfOk};
 ghost use Rattle.snap_scope.specs.Names.{Adds};
 ghost use Rattle.spec_scopes.specs.Slots.{place_in};
 
-use indexmap::IndexMap;
+use crate::few::{FEW, FewSlots};
+use crate::many::ManySlots;
 use snap_text::NoMemory;
 use spec_scopes::SlotPlace;
 use std::alloc::Global;
 use std::marker::Model;
 
-/// The names of a scope, each with whether it is a constant, in order of declaration. They are seen as the
-/// list of the slots.
+/// The names of a scope, each with whether it is a constant, in order of declaration: the first few, and behind them
+/// others only where there is no room for more. They are seen as the list of the slots.
 #[derive(Drop)]
 pub(crate) struct Slots {
-    names: IndexMap<Vec<u8>, bool>,
+    few: FewSlots,
+    many: ManySlots,
 }
 
 impl Model for Slots {
-    ghost use Rattle.std.specs.Prelude.{List, map, length, ◌<◌, ◌^◌};
+    ghost use Rattle.std.specs.Prelude.{◌≡◌, [], ◌++◌, List, length, ◌<◌};
     ghost use Rattle.spec_scopes.specs.Scopes.{Slot};
 
     ghost Value = { List Slot };
 
-    ghost view = { λ slots. map (λ entry. record { name = entry.0.items; is_constant = entry.1 }) slots.names.entries };
+    ghost view = { λ slots. slots.few ++ slots.many };
 
-    ghost invariant = { λ slots. length slots.names.entries < 2 ^ 32 };
+    ghost invariant = { λ slots. length slots.few < 16 → slots.many ≡ [] };
 }
 
 impl Slots {
@@ -33,28 +35,32 @@ impl Slots {
     pub fn with_room(alloc: Global, count: usize) -> Result<Slots, NoMemory>
         ensures { IfOk result (λ slots. slots ≡ []) }
     {
-        let names = IndexMap::with_capacity(alloc, count)?;
-        Ok(Slots { names })
+        let few = FewSlots::with_room(alloc, count.min(FEW))?;
+        let many = ManySlots::with_room(alloc, count.saturating_sub(FEW))?;
+        Ok(Slots { few, many })
     }
 
     /// How many names there are.
     pub fn len(&self) -> u32
         ensures { result ≡ length self.now }
     {
-        self.names.len() as u32
+        self.few.len() + self.many.len()
     }
 
     /// The slot of a name, seen from inside the scope.
     pub fn find(&self, name: &[u8]) -> Option<SlotPlace>
         ensures { result ≡ place_in self.now name.now }
     {
-        match self.names.get_full(name) {
-            Some((slot, _, constant)) => Some(SlotPlace {
-                hops: 0,
-                slot: slot as u32,
-                constant: *constant,
-            }),
-            None => None,
+        match self.few.find(name) {
+            Some(place) => Some(place),
+            None => match self.many.find(name) {
+                Some(place) => Some(SlotPlace {
+                    hops: place.hops,
+                    slot: self.few.len() + place.slot,
+                    constant: place.constant,
+                }),
+                None => None,
+            },
         }
     }
 
@@ -63,12 +69,14 @@ impl Slots {
     pub fn add(&mut self, alloc: Global, name: &[u8], is_constant: bool) -> Result<bool, NoMemory>
         ensures { IfOk result (λ is_new. Adds name.now is_constant self.old is_new self.new) }
     {
-        let count = self.names.len();
-        if count >= u32::MAX as usize {
-            return Err(NoMemory);
+        if self.few.find(name).is_some() {
+            return Ok(false);
         }
-        let key = Vec::from_slice(alloc, name)?;
-        let (slot, _) = self.names.insert_full(key, is_constant)?;
-        Ok(slot == count)
+        if self.few.len() < FEW as u32 {
+            self.few.add(name, is_constant)?;
+            return Ok(true);
+        }
+        let is_new = self.many.add(alloc, name, is_constant)?;
+        Ok(is_new)
     }
 }

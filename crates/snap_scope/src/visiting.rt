@@ -1,7 +1,7 @@
 //! The nodes of a tree, visited in order.
 
 ghost use Rattle.std.specs.Prelude.{◌≡◌, ◌<◌, ◌+◌, ◌^◌, ◌++◌, ◌∷◌, [], ℕ, List, Some, map, length, slice_get, OnOk, IfOk, IfErr};
-ghost use Rattle.snap_ast.specs.Lawful.{Lawful};
+ghost use Rattle.snap_ast.specs.Lawful.{HasWords, Lawful};
 ghost use Rattle.snap_ast.specs.Words.{Each};
 ghost use Rattle.snap_scope.specs.Chains.{chain_in};
 ghost use Rattle.snap_scope.specs.Faults.{IsTold, IsToldAt};
@@ -18,10 +18,11 @@ use crate::children::put_children;
 use crate::context::{Context, NodeEntry};
 use crate::enter::{enter, own_slots, spread};
 use crate::names::{Name, kind_of};
+use crate::places::{entry_of, put_places};
 use crate::slots::Slots;
 use snap_ast::{Form, Tree, TreeNode};
 use snap_text::NoMemory;
-use spec_scopes::ScopeFault;
+use spec_scopes::{ScopeFault, SlotPlace};
 use std::alloc::Global;
 
 /// What is known once some nodes are visited.
@@ -33,10 +34,14 @@ pub(crate) struct Pass<'t> {
     pub contexts: Vec<Context>,
     /// Their own scopes, by number.
     pub entries: Vec<NodeEntry>,
+    /// The places of the names that they mention, in order.
+    pub places: Vec<Option<SlotPlace>>,
     /// The children of the node that is visited.
     pub children: Vec<u32>,
-    /// The names that it declares.
+    /// The names that are looked at there.
     pub names: Vec<Name<'t>>,
+    /// The bytes of the name whose place is looked for.
+    pub bytes: Vec<u8>,
 }
 
 // Refuses a node with its early error, or gives the slots of its own scope, where it has names.
@@ -47,6 +52,8 @@ fn check<'t>(
     context: Context,
     names: &mut Vec<Name<'t>>,
 ) -> Result<Option<Slots>, ScopeFault>
+    requires lawful { Lawful tree.now }
+    requires words { HasWords node.now.form }
     ensures slots { IfOk result (λ slots. slots_in slots ≡ map slot_of (own_names tree.now.nodes node.now.form).names) }
     ensures clean { OnOk result (IsCleanAt tree.now node.now context) }
     ensures err { IfErr result (IsToldAt tree.now node.now context) }
@@ -81,19 +88,29 @@ fn spread_all(
     Ok(())
 }
 
-// The scope of a node whose slots are given, and what its children have from it.
-fn go_in(
+// The places of the names of a node whose slots are given, its scope, and what its children have from it.
+fn go_in<'t>(
     alloc: Global,
-    node: &TreeNode,
+    node: &'t TreeNode,
     context: Context,
     slots: Option<Slots>,
-    pass: &mut Pass<'_>,
+    pass: &mut Pass<'t>,
 ) -> Result<(), NoMemory>
     requires within { context.chain < length pass.old.chains.chains }
     requires few { length (chain_in pass.old.chains context.chain) < 2 ^ 32 }
+    requires words { HasWords node.now.form }
     requires children { Each (λ child. child < length pass.old.contexts.items) (numbers node.now.form) }
-    ensures { OnOk result (GoesIn node.now.form context (slots_in slots) pass.old.chains pass.old.contexts.items pass.old.entries.items pass.new.chains pass.new.contexts.items pass.new.entries.items) }
+    ensures { OnOk result (GoesIn node.now.form context (slots_in slots) pass.old.chains pass.old.contexts.items pass.old.entries.items pass.old.places.items pass.new.chains pass.new.contexts.items pass.new.entries.items pass.new.places.items) }
 {
+    let first = pass.places.len();
+    put_places(
+        &pass.chains,
+        context.chain,
+        &node.form,
+        &mut pass.names,
+        &mut pass.bytes,
+        &mut pass.places,
+    )?;
     let own = enter(
         alloc,
         context.chain,
@@ -108,10 +125,8 @@ fn go_in(
         &mut pass.children,
         &mut pass.contexts,
     )?;
-    pass.entries.push(NodeEntry {
-        chain: context.chain,
-        own,
-    })?;
+    let entry = entry_of(context.chain, own, first, pass.places.len())?;
+    pass.entries.push(entry)?;
     Ok(())
 }
 
@@ -124,8 +139,8 @@ pub(crate) fn visit<'t>(
 ) -> Result<(), ScopeFault>
     requires lawful { Lawful tree.now }
     requires below { number < length tree.now.nodes }
-    requires visited { Visited tree.now pass.old.chains pass.old.contexts.items pass.old.entries.items number }
-    ensures ok { OnOk result (Visited tree.now pass.new.chains pass.new.contexts.items pass.new.entries.items (number + 1)) }
+    requires visited { Visited tree.now pass.old.chains pass.old.contexts.items pass.old.entries.items pass.old.places.items number }
+    ensures ok { OnOk result (Visited tree.now pass.new.chains pass.new.contexts.items pass.new.entries.items pass.new.places.items (number + 1)) }
     ensures err { IfErr result (IsTold (early_error tree.now)) }
 {
     let node = &tree.nodes.as_slice()[number];

@@ -9,3 +9,7 @@ either_way (Err e) a b left right = right b
 pub on_err : {T E A : Type 0} (result : Result T E) → A → OnErr result A
 on_err (Ok x) a = tt
 on_err (Err e) a = a
+
+pub on_ok : {T E A B : Type 0} (result : Result T E) → (A → B) → OnOk result A → OnOk result B
+on_ok (Ok x) f a = f a
+on_ok (Err e) f a = tt

@@ -1,56 +1,42 @@
--- Which keys are array indices.
-use Rattle.std.proofs.Common.{◌≡◌, ℕ, ◌-◌, ◌^◌, ◌<◌, ◌≤◌, zero, suc, List, length, take, get_or, Option, None, Some, refl, sym, ap, subst, ◌∙◌, arith}
+-- Which texts are indices.
+use Rattle.std.proofs.Common.{◌≡◌, ℕ, ◌<◌, ◌≤◌, ◌^◌, zero, suc, List, length, get_or, Option, None, Some, refl, sym, ap, subst, ◌∙◌, arith}
 use Rattle.std.specs.Char.{digit_value}
 use Rattle.std.specs.Fmt.{decimal}
-use Rattle.std.proofs.lemmas.Bool.{le-ltb, lt-ltb}
-use Rattle.std.specs.Option.{unwrap_or}
 use Rattle.std.specs.Str.Parse.{AllDigits, digits_value}
+use Rattle.std.proofs.Math.Nat.{pow-le-pow_right}
 use Rattle.std.proofs.lemmas.Fmt.{decimal-digits_value, decimal_is_IsNumeral, decimal_nonempty, first_decimal, length-decimal-le}
-use Rattle.std.proofs.lemmas.Str.Parse.{IsNumeralModel, digit_at, digits_value_short, numerals_by_value, tells_digits}
-use Rattle.snap_graph.specs.OwnKeys.{array_index, index_end, key_rank}
+use Rattle.std.proofs.lemmas.Str.Parse.{digit_at, numerals_by_value, tells_digits}
+use Rattle.std.proofs.lemmas.Str.{digit_value_digit}
+use Rattle.std.proofs.lemmas.Int.Digits.{digits_value-lt}
+use Rattle.snap_graph.specs.OwnKeys.{array_index, index_end}
 use Rattle.snap_graph.proofs.Indices.{index_text, text_index}
+use Rattle.snap_store.specs.Indices.{IsShort}
 
-numerals : IsNumeralModel (AllDigits 10) (digits_value 10)
-numerals = numerals_by_value (AllDigits 10) tells_digits
+-- digits in no other form are the text of their number
+pub is_index : (text : List ℕ) → IsShort text → AllDigits 10 text → digits_value 10 text < index_end → array_index text ≡ Some (digits_value 10 text)
+is_index text short digits below =
+    let same = decimal-digits_value (numerals_by_value (AllDigits 10) tells_digits) text digits short.0 short.2 (omega arith) in
+    ap array_index (sym same) ∙ text_index (digits_value 10 text) below
 
--- a key that is the text of no index stands behind all
-pub no_index : (key : List ℕ) → ((n : ℕ) → n < index_end → key ≡ decimal n → ⊥) → key_rank key ≡ index_end
-no_index key none = by (array_index key) refl
-  where
-    by : (o : Option ℕ) → array_index key ≡ o → unwrap_or (array_index key) index_end ≡ index_end
-    by None e = ap (λ (o : Option ℕ). unwrap_or o index_end) e
-    by (Some n) e = let h = index_text key n e in absurd (none n h.0 h.1)
+-- what an index is
+index_short : (n : ℕ) → n < index_end → IsShort (decimal n)
+index_short zero h = let one = length-decimal-le 1 0 (omega arith) (omega arith) (omega arith) in (decimal_nonempty 0 (omega arith), omega (arith, one), λ e. omega (arith, one, decimal_nonempty 0 (omega arith)))
+index_short (suc n) h = (decimal_nonempty (suc n) (omega arith), length-decimal-le 10 (suc n) (omega arith) (omega arith) (omega arith), λ e. absurd (omega (arith, first_decimal (suc n) (omega arith) (omega arith))))
 
--- the text of an index is short, and a zero stands in front of no other digit
-pub index_begins : (n : ℕ) → n < index_end → (0 < length (decimal n)) × (length (decimal n) ≤ 10) × (get_or (decimal n) 0 0 ≡ 48 → length (decimal n) ≡ 1)
-index_begins n h = (decimal_nonempty n (omega arith), length-decimal-le 10 n (omega arith) (omega arith) (omega arith), λ e. by n h e)
-  where
-    by : (n : ℕ) → n < index_end → get_or (decimal n) 0 0 ≡ 48 → length (decimal n) ≡ 1
-    by zero h e = omega (arith, decimal_nonempty 0 (omega arith), length-decimal-le 1 0 (omega arith) (omega arith) (omega arith))
-    by (suc n) h e = absurd (omega (arith, first_decimal (suc n) (omega arith) (omega arith)))
+none_unless : (text : List ℕ) (found : Option ℕ) → array_index text ≡ found → ((n : ℕ) → n < index_end → text ≡ decimal n → ⊥) → array_index text ≡ None
+none_unless text None e never = e
+none_unless text (Some n) e never = let is = index_text text n e in absurd (never n is.0 is.1)
 
-pub begins_otherwise : (key : List ℕ) → ((0 < length key) × (length key ≤ 10) × (get_or key 0 0 ≡ 48 → length key ≡ 1) → ⊥) → key_rank key ≡ index_end
-begins_otherwise key none = no_index key (λ n h e. none (subst (λ (k : List ℕ). (0 < length k) × (length k ≤ 10) × (get_or k 0 0 ≡ 48 → length k ≡ 1)) (sym e) (index_begins n h)))
+pub no_index_long : (text : List ℕ) → (IsShort text → ⊥) → array_index text ≡ None
+no_index_long text never = none_unless text (array_index text) refl (λ n h e. never (subst IsShort (sym e) (index_short n h)))
 
--- a unit that is no digit
-pub no_digit : (key : List ℕ) (i : ℕ) → i < length key → ((48 ≤ get_or key i 0) × (get_or key i 0 ≤ 57) → ⊥) → key_rank key ≡ index_end
-no_digit key i within none = no_index key (λ n h e.
-    none (digit_at key i (subst (AllDigits 10) (sym e) (decimal_is_IsNumeral n (omega arith)).0.1) within))
+pub no_index_words : (text : List ℕ) → (AllDigits 10 text → ⊥) → array_index text ≡ None
+no_index_words text never = none_unless text (array_index text) refl (λ n h e. never (subst (AllDigits 10) (sym e) (decimal_is_IsNumeral n (omega arith)).0.1))
 
--- digits that begin as an index does
-pub of_digits : (key : List ℕ) (number : ℕ) → (0 < length key) × (length key ≤ 10) × (get_or key 0 0 ≡ 48 → length key ≡ 1) → AllDigits 10 key → number ≡ digits_value 10 key
-    → (number < index_end → number ≡ key_rank key) × (index_end ≤ number → index_end ≡ key_rank key)
-of_digits key number begins all means = (
-  (λ below.
-      let same : decimal number ≡ key = ap decimal means ∙ decimal-digits_value numerals key all begins.0 begins.2 (omega arith) in
-      sym (ap key_rank (sym same) ∙ ap (λ (o : Option ℕ). unwrap_or o index_end) (text_index number below))),
-  (λ past. sym (no_index key (λ n h e.
-      let value : digits_value 10 key ≡ n = ap (digits_value 10) e ∙ (decimal_is_IsNumeral n (omega arith)).1 in
-      omega arith))),
-)
+-- few digits are a small number
+pub few_digits : (text : List ℕ) → AllDigits 10 text → length text ≤ 9 → digits_value 10 text < 10 ^ 9
+few_digits text digits few = omega (arith, digits_value-lt 10 text digits, pow-le-pow_right {n = 10} (omega arith) few)
 
-pub short_digits : (key : List ℕ) (i : ℕ) → i ≤ 9 → AllDigits 10 (take i key) → length (take i key) ≤ 9 → digits_value 10 (take i key) < 10 ^ 9
-short_digits key i short all few = digits_value_short numerals (take i key) 9 all few
-
-pub digit_of : (c : ℕ) → 48 ≤ c → c ≤ 57 → digit_value c ≡ c - 48
-digit_of c low high = rw (le-ltb c 48 low, lt-ltb c 58 (omega arith)) refl
+-- a unit among digits
+pub digit_among : (text : List ℕ) (place : ℕ) → AllDigits 10 text → place < length text → digit_value (get_or text place 0) < 10
+digit_among text place digits within = let digit = digit_at text place digits within in omega (arith, digit, digit_value_digit (get_or text place 0) digit)

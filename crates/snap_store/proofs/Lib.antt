@@ -4,8 +4,10 @@ mod Filling
 mod Growing
 mod Indexing
 mod Keeping
+mod Keying
 mod Ordering
 mod Owning
 mod Placing
 mod Pushing
 mod Sorting
+mod Viewing

@@ -1,8 +1,9 @@
 -- Kept properties by their places.
-use Rattle.std.proofs.Common.{◌≡◌, ◌≢◌, ℕ, zero, suc, Bool, true, false, All, AllPairs, List, [], ◌∷◌, ◌++◌, map, take, drop, get_or, set, None, Some, is_some, refl, sym, ap, ◌∙◌, arith}
+use Rattle.std.proofs.Common.{◌≡◌, ◌≢◌, ℕ, zero, suc, Bool, true, false, All, AllPairs, List, [], ◌∷◌, ◌++◌, map, take, drop, get_or, set, Option, None, Some, is_some, refl, sym, ap, ◌∙◌, arith}
 use Rattle.std.specs.Str.{bytes_eq as text_eq}
 use Rattle.std.proofs.lemmas.Slice.Eq.{bytes_eq-Decides}
 use Rattle.snap_graph.specs.declared.value.Property.{Property}
+use Rattle.snap_text.specs.declared.key.Key.{Key}
 use Rattle.spec_values.specs.Operations.{held_under, put_under, remove_under}
 use Rattle.snap_store.specs.declared.plain_node.PlainProperty.{PlainProperty}
 use Rattle.snap_store.specs.declared.plain_node.PlainValue.{PlainValue}
@@ -23,25 +24,25 @@ module _ (texts : List (List ℕ)) (key : List ℕ) where
   kept properties = map (property_in texts) properties
 
   -- a property is written in its place
-  pub put_at : (value : PlainValue) (own : List ℕ) (properties : List PlainProperty) (place : ℕ) → own ≡ key → IsPlaceOf key properties (Some place)
-      → map (property_in texts) (set properties place (record { key = own; value = value })) ≡ put_under key (value_in texts value) (map (property_in texts) properties)
-  put_at value own [] place same h = absurd (omega (arith, h.0))
-  put_at value own (p ∷ rest) zero same h =
+  pub put_at : (value : PlainValue) (own : List ℕ) (known : Option Key) (properties : List PlainProperty) (place : ℕ) → own ≡ key → IsPlaceOf key properties (Some place)
+      → map (property_in texts) (set properties place (record { key = own; known = known; value = value })) ≡ put_under key (value_in texts value) (map (property_in texts) properties)
+  put_at value own known [] place same h = absurd (omega (arith, h.0))
+  put_at value own known (p ∷ rest) zero same h =
       rw (is_one p.key key (h.2 p)) (ap (λ (k : List ℕ). record { key = k; value = value_in texts value } ∷ map (property_in texts) rest) (same ∙ sym (h.2 p)))
-  put_at value own (p ∷ rest) (suc place) same h =
+  put_at value own known (p ∷ rest) (suc place) same h =
       rw (is_other p.key key (h.1 zero p (omega arith)))
-      (ap (λ (xs : List Property). property_in texts p ∷ xs) (put_at value own rest place same (omega (arith, h.0), λ k d below. h.1 (suc k) d (omega arith), h.2)))
+      (ap (λ (xs : List Property). property_in texts p ∷ xs) (put_at value own known rest place same (omega (arith, h.0), λ k d below. h.1 (suc k) d (omega arith), h.2)))
 
   none_behind : (p : PlainProperty) (rest : List PlainProperty) → All (λ property. property.key ≢ key) (p ∷ rest) → All (λ property. property.key ≢ key) rest
   none_behind p rest none k d within = none (suc k) d (omega arith)
 
   -- a property is created behind all others
-  pub put_behind : (value : PlainValue) (properties : List PlainProperty) → All (λ property. property.key ≢ key) properties
-      → map (property_in texts) (properties ++ record { key = key; value = value } ∷ []) ≡ put_under key (value_in texts value) (map (property_in texts) properties)
-  put_behind value [] none = refl
-  put_behind value (p ∷ rest) none =
+  pub put_behind : (value : PlainValue) (known : Option Key) (properties : List PlainProperty) → All (λ property. property.key ≢ key) properties
+      → map (property_in texts) (properties ++ record { key = key; known = known; value = value } ∷ []) ≡ put_under key (value_in texts value) (map (property_in texts) properties)
+  put_behind value known [] none = refl
+  put_behind value known (p ∷ rest) none =
       rw (is_other p.key key (none zero p (omega arith)))
-      (ap (λ (xs : List Property). property_in texts p ∷ xs) (put_behind value rest (none_behind p rest none)))
+      (ap (λ (xs : List Property). property_in texts p ∷ xs) (put_behind value known rest (none_behind p rest none)))
 
   -- where there is no property of a key, none is removed
   pub remove_none : (properties : List PlainProperty) → All (λ property. property.key ≢ key) properties

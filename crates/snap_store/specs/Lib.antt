@@ -1,8 +1,11 @@
 pub mod Calls
 pub mod Following
+pub mod Indices
 pub mod Kept
+pub mod Keyed
 pub mod Plain
 pub mod PlainHeaps
 pub mod Ranked
 pub mod Rows
 pub mod Unique
+pub mod View

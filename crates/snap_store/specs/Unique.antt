@@ -6,7 +6,6 @@ use mathlib.Core.Path.{path_j', subst⁻¹, subst⁻¹_refl}
 use denote.Struct.Props.{props}
 use native.Mathlib.Nat.{ℕ_set}
 use Rattle.snap_graph.specs.contracts.node.Node as node_row
-use Rattle.snap_graph.specs.contracts.kind.Kind as kind_row
 use Rattle.snap_graph.specs.contracts.value.Value as value_row
 use Rattle.snap_graph.specs.declared.kind.Kind.{Kind}
 use Rattle.snap_graph.specs.declared.kind.Kind.TheVariants as kind
@@ -19,9 +18,6 @@ use Rattle.snap_graph.specs.Values.{IsPlace, IsValue}
 
 Node-set : IsSet Node
 Node-set = Coded-set node_row.the_row.coded
-
-Kind-set : IsSet Kind
-Kind-set = Coded-set kind_row.the_row.coded
 
 Value-set : IsSet Value
 Value-set = Coded-set value_row.the_row.coded

@@ -7,7 +7,7 @@ ghost use Rattle.snap_graph.specs.Intrinsics as given;
 ghost use Rattle.snap_store.specs.Rows.{own_in, row_node};
 
 use snap_base::NoMemory as NoMemoryAbove;
-use snap_graph::{Graph, Items, Kind, Node, Property, Value};
+use snap_graph::{Graph, Items, Kind, Node, Property, Value, intrinsic};
 use snap_text::{NoMemory, StrView};
 use std::alloc::Global;
 
@@ -61,10 +61,10 @@ fn push_rows(alloc: Global, nodes: &mut Vec<Node>, rows: &[Row]) -> Result<(), N
 fn push_methods(alloc: Global, nodes: &mut Vec<Node>) -> Result<(), NoMemory>
     ensures { OnOk result (nodes.new.items ≡ nodes.old.items ++ given.natives_from 24 38) }
 {
-    for native in 24..62 {
+    for native in intrinsic::HAS_OWN_PROPERTY..intrinsic::INTRINSICS {
         let row = Row {
             kind: Kind::Native { native },
-            prototype: Some(1),
+            prototype: Some(intrinsic::FUNCTION_PROTOTYPE),
             own: &[],
         };
         nodes.push(row_as_node(alloc, &row)?)?;
@@ -100,10 +100,30 @@ fn error_prototype(alloc: Global, prototype: u32, maker: u32, name: &[u8]) -> Re
 fn push_errors(alloc: Global, nodes: &mut Vec<Node>) -> Result<(), NoMemory>
     ensures { OnOk result (nodes.new.items ≡ nodes.old.items ++ drop 6 given.prototypes) }
 {
-    nodes.push(error_prototype(alloc, 0, 15, b"Error")?)?;
-    nodes.push(error_prototype(alloc, 6, 16, b"TypeError")?)?;
-    nodes.push(error_prototype(alloc, 6, 17, b"ReferenceError")?)?;
-    nodes.push(error_prototype(alloc, 6, 18, b"RangeError")?)?;
+    nodes.push(error_prototype(
+        alloc,
+        intrinsic::OBJECT_PROTOTYPE,
+        intrinsic::ERROR,
+        b"Error",
+    )?)?;
+    nodes.push(error_prototype(
+        alloc,
+        intrinsic::ERROR_PROTOTYPE,
+        intrinsic::TYPE_ERROR,
+        b"TypeError",
+    )?)?;
+    nodes.push(error_prototype(
+        alloc,
+        intrinsic::ERROR_PROTOTYPE,
+        intrinsic::REFERENCE_ERROR,
+        b"ReferenceError",
+    )?)?;
+    nodes.push(error_prototype(
+        alloc,
+        intrinsic::ERROR_PROTOTYPE,
+        intrinsic::RANGE_ERROR,
+        b"RangeError",
+    )?)?;
     Ok(())
 }
 
@@ -115,56 +135,65 @@ fn push_prototypes(alloc: Global, nodes: &mut Vec<Node>) -> Result<(), NoMemory>
         Row {
             kind: Kind::Plain,
             prototype: None,
-            own: &[(b"constructor", 10), (b"hasOwnProperty", 24)],
+            own: &[
+                (b"constructor", intrinsic::OBJECT),
+                (b"hasOwnProperty", intrinsic::HAS_OWN_PROPERTY),
+            ],
         },
         Row {
-            kind: Kind::Native { native: 1 },
-            prototype: Some(0),
+            kind: Kind::Native {
+                native: intrinsic::FUNCTION_PROTOTYPE,
+            },
+            prototype: Some(intrinsic::OBJECT_PROTOTYPE),
             own: &[],
         },
         Row {
             kind: Kind::Array,
-            prototype: Some(0),
+            prototype: Some(intrinsic::OBJECT_PROTOTYPE),
             own: &[
-                (b"constructor", 11),
-                (b"filter", 25),
-                (b"forEach", 26),
-                (b"indexOf", 27),
-                (b"join", 28),
-                (b"map", 29),
-                (b"pop", 30),
-                (b"push", 31),
-                (b"slice", 32),
+                (b"constructor", intrinsic::ARRAY),
+                (b"filter", intrinsic::ARRAY_FILTER),
+                (b"forEach", intrinsic::ARRAY_FOR_EACH),
+                (b"indexOf", intrinsic::ARRAY_INDEX_OF),
+                (b"join", intrinsic::ARRAY_JOIN),
+                (b"map", intrinsic::ARRAY_MAP),
+                (b"pop", intrinsic::ARRAY_POP),
+                (b"push", intrinsic::ARRAY_PUSH),
+                (b"slice", intrinsic::ARRAY_SLICE),
             ],
         },
         Row {
             kind: Kind::Plain,
-            prototype: Some(0),
-            own: &[(b"constructor", 12), (b"charCodeAt", 33), (b"slice", 34)],
-        },
-        Row {
-            kind: Kind::Plain,
-            prototype: Some(0),
+            prototype: Some(intrinsic::OBJECT_PROTOTYPE),
             own: &[
-                (b"constructor", 13),
-                (b"clear", 35),
-                (b"delete", 36),
-                (b"forEach", 37),
-                (b"get", 38),
-                (b"has", 39),
-                (b"set", 40),
+                (b"constructor", intrinsic::STRING),
+                (b"charCodeAt", intrinsic::STRING_CHAR_CODE_AT),
+                (b"slice", intrinsic::STRING_SLICE),
             ],
         },
         Row {
             kind: Kind::Plain,
-            prototype: Some(0),
+            prototype: Some(intrinsic::OBJECT_PROTOTYPE),
             own: &[
-                (b"constructor", 14),
-                (b"add", 41),
-                (b"clear", 42),
-                (b"delete", 43),
-                (b"forEach", 44),
-                (b"has", 45),
+                (b"constructor", intrinsic::MAP),
+                (b"clear", intrinsic::MAP_CLEAR),
+                (b"delete", intrinsic::MAP_DELETE),
+                (b"forEach", intrinsic::MAP_FOR_EACH),
+                (b"get", intrinsic::MAP_GET),
+                (b"has", intrinsic::MAP_HAS),
+                (b"set", intrinsic::MAP_SET),
+            ],
+        },
+        Row {
+            kind: Kind::Plain,
+            prototype: Some(intrinsic::OBJECT_PROTOTYPE),
+            own: &[
+                (b"constructor", intrinsic::SET),
+                (b"add", intrinsic::SET_ADD),
+                (b"clear", intrinsic::SET_CLEAR),
+                (b"delete", intrinsic::SET_DELETE),
+                (b"forEach", intrinsic::SET_FOR_EACH),
+                (b"has", intrinsic::SET_HAS),
             ],
         },
     ];
@@ -177,56 +206,77 @@ fn push_constructors(alloc: Global, nodes: &mut Vec<Node>) -> Result<(), NoMemor
 {
     let rows = [
         Row {
-            kind: Kind::Native { native: 10 },
-            prototype: Some(1),
+            kind: Kind::Native {
+                native: intrinsic::OBJECT,
+            },
+            prototype: Some(intrinsic::FUNCTION_PROTOTYPE),
             own: &[
-                (b"prototype", 0),
-                (b"create", 46),
-                (b"freeze", 47),
-                (b"getPrototypeOf", 48),
-                (b"isFrozen", 49),
-                (b"keys", 50),
+                (b"prototype", intrinsic::OBJECT_PROTOTYPE),
+                (b"create", intrinsic::OBJECT_CREATE),
+                (b"freeze", intrinsic::OBJECT_FREEZE),
+                (b"getPrototypeOf", intrinsic::OBJECT_GET_PROTOTYPE_OF),
+                (b"isFrozen", intrinsic::OBJECT_IS_FROZEN),
+                (b"keys", intrinsic::OBJECT_KEYS),
             ],
         },
         Row {
-            kind: Kind::Native { native: 11 },
-            prototype: Some(1),
-            own: &[(b"prototype", 2), (b"isArray", 51)],
+            kind: Kind::Native {
+                native: intrinsic::ARRAY,
+            },
+            prototype: Some(intrinsic::FUNCTION_PROTOTYPE),
+            own: &[
+                (b"prototype", intrinsic::ARRAY_PROTOTYPE),
+                (b"isArray", intrinsic::ARRAY_IS_ARRAY),
+            ],
         },
         Row {
-            kind: Kind::Native { native: 12 },
-            prototype: Some(1),
-            own: &[(b"prototype", 3)],
+            kind: Kind::Native {
+                native: intrinsic::STRING,
+            },
+            prototype: Some(intrinsic::FUNCTION_PROTOTYPE),
+            own: &[(b"prototype", intrinsic::STRING_PROTOTYPE)],
         },
         Row {
-            kind: Kind::Native { native: 13 },
-            prototype: Some(1),
-            own: &[(b"prototype", 4)],
+            kind: Kind::Native {
+                native: intrinsic::MAP,
+            },
+            prototype: Some(intrinsic::FUNCTION_PROTOTYPE),
+            own: &[(b"prototype", intrinsic::MAP_PROTOTYPE)],
         },
         Row {
-            kind: Kind::Native { native: 14 },
-            prototype: Some(1),
-            own: &[(b"prototype", 5)],
+            kind: Kind::Native {
+                native: intrinsic::SET,
+            },
+            prototype: Some(intrinsic::FUNCTION_PROTOTYPE),
+            own: &[(b"prototype", intrinsic::SET_PROTOTYPE)],
         },
         Row {
-            kind: Kind::Native { native: 15 },
-            prototype: Some(1),
-            own: &[(b"prototype", 6)],
+            kind: Kind::Native {
+                native: intrinsic::ERROR,
+            },
+            prototype: Some(intrinsic::FUNCTION_PROTOTYPE),
+            own: &[(b"prototype", intrinsic::ERROR_PROTOTYPE)],
         },
         Row {
-            kind: Kind::Native { native: 16 },
-            prototype: Some(15),
-            own: &[(b"prototype", 7)],
+            kind: Kind::Native {
+                native: intrinsic::TYPE_ERROR,
+            },
+            prototype: Some(intrinsic::ERROR),
+            own: &[(b"prototype", intrinsic::TYPE_ERROR_PROTOTYPE)],
         },
         Row {
-            kind: Kind::Native { native: 17 },
-            prototype: Some(15),
-            own: &[(b"prototype", 8)],
+            kind: Kind::Native {
+                native: intrinsic::REFERENCE_ERROR,
+            },
+            prototype: Some(intrinsic::ERROR),
+            own: &[(b"prototype", intrinsic::REFERENCE_ERROR_PROTOTYPE)],
         },
         Row {
-            kind: Kind::Native { native: 18 },
-            prototype: Some(15),
-            own: &[(b"prototype", 9)],
+            kind: Kind::Native {
+                native: intrinsic::RANGE_ERROR,
+            },
+            prototype: Some(intrinsic::ERROR),
+            own: &[(b"prototype", intrinsic::RANGE_ERROR_PROTOTYPE)],
         },
     ];
     push_rows(alloc, nodes, &rows)
@@ -239,38 +289,46 @@ fn push_hosts(alloc: Global, nodes: &mut Vec<Node>) -> Result<(), NoMemory>
     let rows = [
         Row {
             kind: Kind::Plain,
-            prototype: Some(0),
-            own: &[(b"log", 52)],
+            prototype: Some(intrinsic::OBJECT_PROTOTYPE),
+            own: &[(b"log", intrinsic::CONSOLE_LOG)],
         },
         Row {
             kind: Kind::Plain,
-            prototype: Some(0),
+            prototype: Some(intrinsic::OBJECT_PROTOTYPE),
             own: &[
-                (b"args", 53),
-                (b"close", 54),
-                (b"isolate", 55),
-                (b"native", 56),
-                (b"resource", 57),
+                (b"args", intrinsic::HOST_ARGS),
+                (b"close", intrinsic::HOST_CLOSE),
+                (b"isolate", intrinsic::HOST_ISOLATE),
+                (b"native", intrinsic::HOST_NATIVE),
+                (b"resource", intrinsic::HOST_RESOURCE),
             ],
         },
         Row {
             kind: Kind::Plain,
-            prototype: Some(0),
-            own: &[(b"startupSnapshot", 22)],
+            prototype: Some(intrinsic::OBJECT_PROTOTYPE),
+            own: &[(b"startupSnapshot", intrinsic::STARTUP_SNAPSHOT)],
         },
         Row {
             kind: Kind::Plain,
-            prototype: Some(0),
+            prototype: Some(intrinsic::OBJECT_PROTOTYPE),
             own: &[
-                (b"addDeserializeCallback", 58),
-                (b"addSerializeCallback", 59),
-                (b"isBuildingSnapshot", 60),
-                (b"setDeserializeMainFunction", 61),
+                (
+                    b"addDeserializeCallback",
+                    intrinsic::ADD_DESERIALIZE_CALLBACK,
+                ),
+                (b"addSerializeCallback", intrinsic::ADD_SERIALIZE_CALLBACK),
+                (b"isBuildingSnapshot", intrinsic::IS_BUILDING_SNAPSHOT),
+                (
+                    b"setDeserializeMainFunction",
+                    intrinsic::SET_DESERIALIZE_MAIN_FUNCTION,
+                ),
             ],
         },
         Row {
-            kind: Kind::Native { native: 23 },
-            prototype: Some(1),
+            kind: Kind::Native {
+                native: intrinsic::REQUIRE,
+            },
+            prototype: Some(intrinsic::FUNCTION_PROTOTYPE),
             own: &[],
         },
     ];

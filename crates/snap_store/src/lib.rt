@@ -2,6 +2,7 @@
 #![tactic(auto)]
 
 mod fault;
+mod indices;
 mod intrinsic_nodes;
 mod laws;
 mod plain_heap;
@@ -14,6 +15,7 @@ mod plain_told;
 mod store;
 
 pub use fault::StoreFault;
+pub use indices::{INDEX_END, array_index};
 pub use intrinsic_nodes::intrinsics;
 pub use laws::calls_are_operations;
 pub use plain_node::PlainValue;

@@ -13,7 +13,7 @@ use crate::plain_order::keys_in_order;
 use crate::plain_told::{told_graph, told_value};
 use snap_base::{MOST_ITEMS, MOST_PRIVATE_NODES, MOST_PROPERTIES};
 use snap_graph::{Graph, Kind, Value};
-use snap_text::{NoMemory, Units};
+use snap_text::{Key, NoMemory, Units};
 use std::alloc::Global;
 
 // The texts and nodes of a plain store. What they stand for is `heap_nodes`.
@@ -35,8 +35,10 @@ impl PlainHeap {
     ghost use Rattle.snap_graph.specs.Lawful.{IsElementKey, IsPrototype};
     ghost use Rattle.snap_graph.specs.Values.{IsPlace, IsValue};
     ghost use Rattle.snap_store.specs.Calls.{EndsWhere, IsResource, MakesWhere, MayStandIn, has_room, is_full, is_long, own_keys_of, prototype_of};
+    ghost use Rattle.snap_store.specs.Keyed.{AreNodesKeyed, IsKeyed};
     ghost use Rattle.snap_store.specs.Plain.{IsPlaceOf, value_in};
     ghost use Rattle.snap_store.specs.PlainHeaps.{Follows, HeapOwns, heap_nodes, heap_properties};
+    ghost use Rattle.snap_text.specs.declared.key.Key.{Key};
     ghost use Rattle.spec_values.specs.Access.{kind_of};
     ghost use Rattle.spec_values.specs.Operations.{elements_of, is_frozen, new_node, own_value, with_closed, with_element, with_fewer, with_frozen, with_more, with_own, without_own};
 
@@ -44,6 +46,7 @@ impl PlainHeap {
     pub(crate) fn new(alloc: Global) -> Result<PlainHeap, NoMemory>
         ensures nodes { IfOk result (λ heap. heap_nodes heap ≡ intrinsics) }
         ensures private_nodes { IfOk result (λ heap. heap.private_nodes ≡ 0) }
+        ensures keyed { IfOk result (λ heap. (key_of : List ℕ → Option Key) → AreNodesKeyed key_of heap.nodes.items) }
     {
         match intrinsics(alloc) {
             Ok(graph) => PlainHeap::of(alloc, graph, 0),
@@ -56,6 +59,7 @@ impl PlainHeap {
         requires { IsLawful graph.nodes }
         ensures nodes { IfOk result (λ heap. heap_nodes heap ≡ graph.nodes) }
         ensures private_nodes { IfOk result (λ heap. heap.private_nodes ≡ private_nodes) }
+        ensures keyed { IfOk result (λ heap. (key_of : List ℕ → Option Key) → AreNodesKeyed key_of heap.nodes.items) }
     {
         let Graph { nodes } = graph;
         let mut texts = Vec::new(alloc);
@@ -81,6 +85,7 @@ impl PlainHeap {
         ensures text { IfOk result (λ place. slice_index_or self.new.texts.items place [] ≡ text.now) }
         ensures nodes { heap_nodes self.new ≡ heap_nodes self.old }
         ensures private_nodes { self.new.private_nodes ≡ self.old.private_nodes }
+        ensures keyed { (key_of : List ℕ → Option Key) → AreNodesKeyed key_of self.old.nodes.items → AreNodesKeyed key_of self.new.nodes.items }
         ensures later { Follows self.old self.new }
     {
         let units = Units::of(self.alloc, text.units())?;
@@ -96,6 +101,7 @@ impl PlainHeap {
         ensures meaning { IfOk result (λ held. value_in self.new.texts.items held ≡ value.now) }
         ensures nodes { heap_nodes self.new ≡ heap_nodes self.old }
         ensures private_nodes { self.new.private_nodes ≡ self.old.private_nodes }
+        ensures keyed { (key_of : List ℕ → Option Key) → AreNodesKeyed key_of self.old.nodes.items → AreNodesKeyed key_of self.new.nodes.items }
         ensures later { Follows self.old self.new }
     {
         Ok(match value {
@@ -129,6 +135,7 @@ impl PlainHeap {
             ≡ heap_nodes self.old ++ new_node kind (value_in self.old.texts.items prototype) ∷ []) }
         ensures private_nodes { OnOk result (self.new.private_nodes ≡ self.old.private_nodes + 1) }
         ensures err { OnErr result ((heap_nodes self.new ≡ heap_nodes self.old) × (self.new.private_nodes ≡ self.old.private_nodes)) }
+        ensures keyed { (key_of : List ℕ → Option Key) → AreNodesKeyed key_of self.old.nodes.items → AreNodesKeyed key_of self.new.nodes.items }
         ensures later { Follows self.old self.new }
     {
         if self.private_nodes >= MOST_PRIVATE_NODES {
@@ -180,6 +187,7 @@ impl PlainHeap {
         requires { node < length (heap_nodes self.old) }
         ensures nodes { heap_nodes self.new ≡ with_frozen (heap_nodes self.old) node }
         ensures private_nodes { self.new.private_nodes ≡ self.old.private_nodes }
+        ensures keyed { (key_of : List ℕ → Option Key) → AreNodesKeyed key_of self.old.nodes.items → AreNodesKeyed key_of self.new.nodes.items }
         ensures later { Follows self.old self.new }
     {
         self.nodes[node as usize].freeze();
@@ -191,6 +199,7 @@ impl PlainHeap {
         requires kind { IfSome (kind_of (heap_nodes self.old) node) IsResource }
         ensures nodes { heap_nodes self.new ≡ with_closed (heap_nodes self.old) node }
         ensures private_nodes { self.new.private_nodes ≡ self.old.private_nodes }
+        ensures keyed { (key_of : List ℕ → Option Key) → AreNodesKeyed key_of self.old.nodes.items → AreNodesKeyed key_of self.new.nodes.items }
         ensures later { Follows self.old self.new }
     {
         self.nodes[node as usize].close();
@@ -199,7 +208,8 @@ impl PlainHeap {
     // The properties of a node.
     pub(crate) fn properties(&self, node: u32) -> &[PlainProperty]
         requires { node < length (heap_nodes self.now) }
-        ensures { result.now ≡ heap_properties self.now node }
+        ensures value { result.now ≡ heap_properties self.now node }
+        ensures keyed { (key_of : List ℕ → Option Key) → AreNodesKeyed key_of self.now.nodes.items → All (IsKeyed key_of) result.now }
     {
         self.nodes[node as usize].properties.as_slice()
     }
@@ -226,6 +236,7 @@ impl PlainHeap {
         ensures nodes { (key : List ℕ) → IsPlaceOf key (heap_properties self.old node) (Some place)
             → heap_nodes self.new ≡ with_own (heap_nodes self.old) node key (value_in self.old.texts.items held) }
         ensures private_nodes { self.new.private_nodes ≡ self.old.private_nodes }
+        ensures keyed { (key_of : List ℕ → Option Key) → AreNodesKeyed key_of self.old.nodes.items → AreNodesKeyed key_of self.new.nodes.items }
         ensures later { Follows self.old self.new }
     {
         self.nodes[node as usize].write(place, held);
@@ -236,6 +247,7 @@ impl PlainHeap {
         &mut self,
         node: u32,
         key: Units,
+        known: Key,
         held: PlainValue,
     ) -> Result<(), StoreFault>
         requires number { node < length (heap_nodes self.old) }
@@ -248,12 +260,13 @@ impl PlainHeap {
         ensures nodes { OnOk result (heap_nodes self.new ≡ with_own (heap_nodes self.old) node key (value_in self.old.texts.items held)) }
         ensures err { OnErr result (heap_nodes self.new ≡ heap_nodes self.old) }
         ensures private_nodes { self.new.private_nodes ≡ self.old.private_nodes }
+        ensures keyed { (key_of : List ℕ → Option Key) → key_of key ≡ Some known → AreNodesKeyed key_of self.old.nodes.items → AreNodesKeyed key_of self.new.nodes.items }
         ensures later { Follows self.old self.new }
     {
         if self.properties(node).len() >= MOST_PROPERTIES as usize {
             return Err(StoreFault::TooLong);
         }
-        self.nodes[node as usize].create(key, held)?;
+        self.nodes[node as usize].create(key, known, held)?;
         Ok(())
     }
 
@@ -265,6 +278,7 @@ impl PlainHeap {
         ensures nodes { (key : List ℕ) → IsPlaceOf key (heap_properties self.old node) (Some place)
             → heap_nodes self.new ≡ without_own (heap_nodes self.old) node key }
         ensures private_nodes { self.new.private_nodes ≡ self.old.private_nodes }
+        ensures keyed { (key_of : List ℕ → Option Key) → AreNodesKeyed key_of self.old.nodes.items → AreNodesKeyed key_of self.new.nodes.items }
         ensures later { Follows self.old self.new }
     {
         self.nodes[node as usize].remove(place);
@@ -304,6 +318,7 @@ impl PlainHeap {
         requires value { MayStandIn (heap_nodes self.old) node (value_in self.old.texts.items held) }
         ensures nodes { heap_nodes self.new ≡ with_element (heap_nodes self.old) node i (value_in self.old.texts.items held) }
         ensures private_nodes { self.new.private_nodes ≡ self.old.private_nodes }
+        ensures keyed { (key_of : List ℕ → Option Key) → AreNodesKeyed key_of self.old.nodes.items → AreNodesKeyed key_of self.new.nodes.items }
         ensures later { Follows self.old self.new }
     {
         self.nodes[node as usize].set_element(i as usize, held);
@@ -318,6 +333,7 @@ impl PlainHeap {
         ensures nodes { OnOk result (heap_nodes self.new ≡ with_more (heap_nodes self.old) node (value_in self.old.texts.items held)) }
         ensures err { OnErr result (heap_nodes self.new ≡ heap_nodes self.old) }
         ensures private_nodes { self.new.private_nodes ≡ self.old.private_nodes }
+        ensures keyed { (key_of : List ℕ → Option Key) → AreNodesKeyed key_of self.old.nodes.items → AreNodesKeyed key_of self.new.nodes.items }
         ensures later { Follows self.old self.new }
     {
         if self.kind(node) == Kind::Array && self.count(node) >= MOST_ITEMS {
@@ -337,6 +353,7 @@ impl PlainHeap {
             ≡ slice_get (elements_of (heap_nodes self.old) node) (length (elements_of (heap_nodes self.old) node) - 1) }
         ensures nodes { heap_nodes self.new ≡ with_fewer (heap_nodes self.old) node }
         ensures private_nodes { self.new.private_nodes ≡ self.old.private_nodes }
+        ensures keyed { (key_of : List ℕ → Option Key) → AreNodesKeyed key_of self.old.nodes.items → AreNodesKeyed key_of self.new.nodes.items }
         ensures later { Follows self.old self.new }
     {
         self.nodes[node as usize].pop_element()

@@ -1,7 +1,9 @@
 //! A graph, as it is kept.
 
-ghost use Rattle.std.specs.Prelude.{IfOk};
+ghost use Rattle.std.specs.Prelude.{ℕ, All, IfOk, List, Option};
+ghost use Rattle.snap_store.specs.Keyed.{AreNodesKeyed, IsKeyed, IsNodeKeyed};
 ghost use Rattle.snap_store.specs.Kept.{AreKept, AreNodesKept, ArePropertiesKept, Begins, IsKept, IsNodeKept};
+ghost use Rattle.snap_text.specs.declared.key.Key.{Key};
 
 use crate::plain_node::{PlainNode, PlainProperty, PlainValue};
 use snap_graph::{Items, Node, Property, Value};
@@ -50,12 +52,14 @@ fn kept_properties(
 ) -> Result<Vec<PlainProperty>, NoMemory>
     ensures texts { Begins texts.old.items texts.new.items }
     ensures kept { IfOk result (λ kept. ArePropertiesKept texts.new.items kept.items properties) }
+    ensures keyed { IfOk result (λ kept. (key_of : List ℕ → Option Key) → All (IsKeyed key_of) kept.items) }
 {
     let mut kept = Vec::new(alloc);
     for property in properties.into_vec() {
         let Property { key, value } = property;
         let value = kept_value(texts, value)?;
-        kept.push(PlainProperty { key, value })?;
+        let known = None;
+        kept.push(PlainProperty { key, known, value })?;
     }
     Ok(kept)
 }
@@ -64,6 +68,7 @@ fn kept_properties(
 fn kept_node(alloc: Global, texts: &mut Vec<Units>, node: Node) -> Result<PlainNode, NoMemory>
     ensures texts { Begins texts.old.items texts.new.items }
     ensures kept { IfOk result (λ kept. IsNodeKept texts.new.items kept node) }
+    ensures keyed { IfOk result (λ kept. (key_of : List ℕ → Option Key) → IsNodeKeyed key_of kept) }
 {
     let Node {
         kind,
@@ -95,6 +100,7 @@ pub(crate) fn kept_nodes(
 ) -> Result<Vec<PlainNode>, NoMemory>
     ensures texts { Begins texts.old.items texts.new.items }
     ensures kept { IfOk result (λ kept. AreNodesKept texts.new.items kept.items nodes) }
+    ensures keyed { IfOk result (λ kept. (key_of : List ℕ → Option Key) → AreNodesKeyed key_of kept.items) }
 {
     let mut kept = Vec::new(alloc);
     for node in nodes.into_vec() {

@@ -4,7 +4,7 @@ ghost use Rattle.std.specs.Prelude.{◌≡◌, ◌<◌, ◌-◌, ◌++◌, ◌�
 ghost use Rattle.spec_values.specs.Operations.{closed_kind};
 
 use snap_graph::Kind;
-use snap_text::{NoMemory, Units};
+use snap_text::{Key, NoMemory, Units};
 
 /// A value as a plain store keeps it: a text is known by its place in the store's list of texts.
 #[derive(Clone, Copy, Debug, PartialEq, Eq)]
@@ -25,10 +25,11 @@ pub enum PlainValue {
     Empty,
 }
 
-// A property of a node.
+// A property of a node: the text of its key, the store's key of that text where it is known, and what it holds.
 #[derive(Drop)]
 pub(crate) struct PlainProperty {
     pub(crate) key: Units,
+    pub(crate) known: Option<Key>,
     pub(crate) value: PlainValue,
 }
 
@@ -43,13 +44,16 @@ pub(crate) struct PlainNode {
 }
 
 impl PlainNode {
+    ghost use Rattle.snap_store.specs.Keyed.{IsNodeKeyed};
     ghost use Rattle.snap_store.specs.Plain.{IsNodeWithin, IsPlaceOf, IsWithin, node_in, value_in};
+    ghost use Rattle.snap_text.specs.declared.key.Key.{Key};
     ghost use Rattle.spec_values.specs.Operations.{closed_node, frozen_node, put_under, remove_under, with_elements, with_properties};
 
     // Freezes the node.
     pub(crate) fn freeze(&mut self)
         ensures means { (texts : List (List ℕ)) → node_in texts self.new ≡ frozen_node (node_in texts self.old) }
         ensures within { (count : ℕ) → IsNodeWithin count self.old → IsNodeWithin count self.new }
+        ensures keyed { (key_of : List ℕ → Option Key) → IsNodeKeyed key_of self.old → IsNodeKeyed key_of self.new }
     {
         self.frozen = true;
     }
@@ -58,6 +62,7 @@ impl PlainNode {
     pub(crate) fn close(&mut self)
         ensures means { (texts : List (List ℕ)) → node_in texts self.new ≡ closed_node (node_in texts self.old) }
         ensures within { (count : ℕ) → IsNodeWithin count self.old → IsNodeWithin count self.new }
+        ensures keyed { (key_of : List ℕ → Option Key) → IsNodeKeyed key_of self.old → IsNodeKeyed key_of self.new }
     {
         self.kind = closed(self.kind);
     }
@@ -68,18 +73,26 @@ impl PlainNode {
         ensures means { (texts : List (List ℕ)) (key : List ℕ) → IsPlaceOf key self.old.properties.items (Some place)
             → node_in texts self.new ≡ with_properties (put_under key (value_in texts value)) (node_in texts self.old) }
         ensures within { (count : ℕ) → IsNodeWithin count self.old → IsWithin count value → IsNodeWithin count self.new }
+        ensures keyed { (key_of : List ℕ → Option Key) → IsNodeKeyed key_of self.old → IsNodeKeyed key_of self.new }
     {
         self.properties[place].value = value;
     }
 
     // Creates a property behind all others.
-    pub(crate) fn create(&mut self, key: Units, value: PlainValue) -> Result<(), NoMemory>
+    pub(crate) fn create(
+        &mut self,
+        key: Units,
+        known: Key,
+        value: PlainValue,
+    ) -> Result<(), NoMemory>
         ensures means { OnOk result ((texts : List (List ℕ)) → IsPlaceOf key self.old.properties.items None
             → node_in texts self.new ≡ with_properties (put_under key (value_in texts value)) (node_in texts self.old)) }
         ensures err { OnErr result ((texts : List (List ℕ)) → node_in texts self.new ≡ node_in texts self.old) }
         ensures within { (count : ℕ) → IsNodeWithin count self.old → IsWithin count value → IsNodeWithin count self.new }
+        ensures keyed { (key_of : List ℕ → Option Key) → key_of key ≡ Some known → IsNodeKeyed key_of self.old → IsNodeKeyed key_of self.new }
     {
-        self.properties.push(PlainProperty { key, value })?;
+        let known = Some(known);
+        self.properties.push(PlainProperty { key, known, value })?;
         Ok(())
     }
 
@@ -90,6 +103,7 @@ impl PlainNode {
             → AllPairs (λ one other. one.key ≢ other.key) self.old.properties.items
             → node_in texts self.new ≡ with_properties (remove_under key) (node_in texts self.old) }
         ensures within { (count : ℕ) → IsNodeWithin count self.old → IsNodeWithin count self.new }
+        ensures keyed { (key_of : List ℕ → Option Key) → IsNodeKeyed key_of self.old → IsNodeKeyed key_of self.new }
     {
         let _property = self.properties.remove(place);
     }
@@ -101,6 +115,7 @@ impl PlainNode {
             → node_in texts self.new
             ≡ with_elements (λ elements. slice_set elements place (value_in texts value)) (node_in texts self.old) }
         ensures within { (count : ℕ) → IsNodeWithin count self.old → IsWithin count value → IsNodeWithin count self.new }
+        ensures keyed { (key_of : List ℕ → Option Key) → IsNodeKeyed key_of self.old → IsNodeKeyed key_of self.new }
     {
         self.elements[place] = value;
     }
@@ -111,6 +126,7 @@ impl PlainNode {
             → node_in texts self.new ≡ with_elements (λ elements. elements ++ value_in texts value ∷ []) (node_in texts self.old)) }
         ensures err { OnErr result ((texts : List (List ℕ)) → node_in texts self.new ≡ node_in texts self.old) }
         ensures within { (count : ℕ) → IsNodeWithin count self.old → IsWithin count value → IsNodeWithin count self.new }
+        ensures keyed { (key_of : List ℕ → Option Key) → IsNodeKeyed key_of self.old → IsNodeKeyed key_of self.new }
     {
         if self.elements.len() >= u32::MAX as usize {
             return Err(NoMemory);
@@ -125,6 +141,7 @@ impl PlainNode {
             → node_in texts self.new ≡ with_elements (λ elements. take (length elements - 1) elements) (node_in texts self.old) }
         ensures taken { result ≡ slice_get self.old.elements.items (length self.old.elements.items - 1) }
         ensures within { (count : ℕ) → IsNodeWithin count self.old → IsNodeWithin count self.new }
+        ensures keyed { (key_of : List ℕ → Option Key) → IsNodeKeyed key_of self.old → IsNodeKeyed key_of self.new }
     {
         self.elements.pop()
     }

@@ -1,18 +1,16 @@
 //! The order of own keys.
 
-ghost use Rattle.std.specs.Prelude.{◌≡◌, ◌↔◌, ◌≤◌, ◌<◌, ℕ, List, IfOk, IsTrue, ◌==◌, filter, length, map, slice_index};
+ghost use Rattle.std.specs.Prelude.{◌≡◌, ℕ, List, IfOk, ◌==◌, filter, map};
 ghost use Rattle.std.specs.List.Sorted.{IsNonDecreasingBy};
 ghost use Rattle.snap_graph.specs.OwnKeys.{key_rank, own_order};
 ghost use Rattle.snap_store.specs.Plain.{property_in};
 ghost use Rattle.snap_store.specs.Ranked.{ranked_key};
 
+use crate::indices::{INDEX_END, array_index};
 use crate::plain_node::PlainProperty;
 use snap_graph::own_keys_are_in_order;
 use snap_text::{NoMemory, Units};
 use std::alloc::Global;
-
-// The least number that is no array index.
-const INDEX_END: u32 = 4_294_967_295;
 
 // A key, and where it stands among own keys.
 #[derive(Drop)]
@@ -21,32 +19,11 @@ struct RankedKey {
     key: Units,
 }
 
-// Whether a text is as long as an index, with no zero before other digits.
-fn begins_as_index(text: &[u16]) -> bool
-    ensures { IsTrue result ↔ ((0 < length text.now) × (length text.now ≤ 10) × (slice_index text.now 0 ≡ 48 → length text.now ≡ 1)) }
-{
-    !text.is_empty() && text.len() <= 10 && (text.len() == 1 || text[0] != 48)
-}
-
 // Where a key stands among own keys: an array index at its number, and any other key behind all indices.
 fn rank_of(key: &[u16]) -> u32
     ensures { result ≡ key_rank key.now }
 {
-    if !begins_as_index(key) {
-        return INDEX_END;
-    }
-    let mut number: u64 = 0;
-    for unit in key {
-        if *unit < 48 || *unit > 57 {
-            return INDEX_END;
-        }
-        number = number * 10 + u64::from(*unit - 48);
-    }
-    if number < u64::from(INDEX_END) {
-        number as u32
-    } else {
-        INDEX_END
-    }
+    array_index(key).unwrap_or(INDEX_END)
 }
 
 fn ranked_keys(alloc: Global, properties: &[PlainProperty]) -> Result<Vec<RankedKey>, NoMemory>

@@ -1,6 +1,7 @@
 //! Stores that keep plain lists.
 
 ghost use Rattle.snap_text.specs.Keys.{Keeps};
+ghost use Rattle.snap_store.specs.Keyed.{AreNodesKeyed, AreNodesKeyed-prop};
 ghost use Rattle.snap_store.specs.Plain.{value_in};
 ghost use Rattle.std.specs.Prelude.{◌≡◌, ℕ, List, length};
 
@@ -15,11 +16,12 @@ use snap_text::{Key, Keys, Units};
 use std::alloc::Global;
 
 /// A store that keeps plain lists: nodes whose values are held ones, and a list of texts that only grows.
-/// A property is looked up by a scan of its node alone.
+/// A property is looked up by a scan of its node alone, which compares keys where both are known.
 #[derive(Drop)]
 pub struct PlainStore<K: Keys> {
     keys: K,
     heap: PlainHeap,
+    ghost keyed: { AreNodesKeyed (K.key_of keys) heap.nodes.items } by { AreNodesKeyed-prop (K.key_of keys) heap.nodes.items },
 }
 
 /// Want of memory of `PlainStore::of`, which gives the keys back.
@@ -36,8 +38,8 @@ impl<K: Keys> PlainStore<K> {
 
     /// A store with these keys that stands for the intrinsics alone, of which none is private.
     pub fn new(alloc: Global, keys: K) -> Result<PlainStore<K>, NoMemory>
-        ensures nodes { IfOk result (λ store. ⟦<PlainStore<K> as Store>⟧.nodes store ≡ intrinsics) }
-        ensures private_nodes { IfOk result (λ store. ⟦<PlainStore<K> as Store>⟧.private_nodes store ≡ 0) }
+        ensures nodes { IfOk result (λ store. (⟦<PlainStore<K> as Store>⟧.view store).nodes ≡ intrinsics) }
+        ensures private_nodes { IfOk result (λ store. (⟦<PlainStore<K> as Store>⟧.view store).private_nodes ≡ 0) }
         ensures keys { IfOk result (λ store. store.keys ≡ keys) }
     {
         match PlainHeap::new(alloc) {
@@ -54,8 +56,8 @@ impl<K: Keys> PlainStore<K> {
         private_nodes: u32,
     ) -> Result<PlainStore<K>, NoRoom<K>>
         requires { IsLawful graph.nodes }
-        ensures nodes { IfOk result (λ store. ⟦<PlainStore<K> as Store>⟧.nodes store ≡ graph.nodes) }
-        ensures private_nodes { IfOk result (λ store. ⟦<PlainStore<K> as Store>⟧.private_nodes store ≡ private_nodes) }
+        ensures nodes { IfOk result (λ store. (⟦<PlainStore<K> as Store>⟧.view store).nodes ≡ graph.nodes) }
+        ensures private_nodes { IfOk result (λ store. (⟦<PlainStore<K> as Store>⟧.view store).private_nodes ≡ private_nodes) }
         ensures keys { IfOk result (λ store. store.keys ≡ keys) }
         ensures err { IfErr result (λ room. room.keys ≡ keys) }
     {
@@ -75,7 +77,7 @@ impl<K: Keys> PlainStore<K> {
 
     /// The graph that the store stands for.
     pub fn graph(&self) -> Result<Graph, NoMemory>
-        ensures { IfOk result (λ graph. graph.nodes ≡ ⟦<PlainStore<K> as Store>⟧.nodes self.now) }
+        ensures { IfOk result (λ graph. graph.nodes ≡ (⟦<PlainStore<K> as Store>⟧.view self.now).nodes) }
     {
         match self.heap.graph() {
             Ok(graph) => Ok(graph),
@@ -91,17 +93,13 @@ impl<K: Keys> Store for PlainStore<K> {
     ghost use Rattle.snap_store.specs.Following.{begins_itself, begins_still, fewer_still, meaning_after, not_fewer, own_after};
     ghost use Rattle.snap_store.specs.PlainHeaps.{Follows, HeapOwns, heap_nodes};
 
-    ghost nodes = { λ store. heap_nodes store.heap };
-
-    ghost private_nodes = { λ store. store.heap.private_nodes };
+    ghost view = { λ store. record { nodes = heap_nodes store.heap; private_nodes = store.heap.private_nodes; log = K.log store.keys } };
 
     ghost owns = { λ store held. HeapOwns store.heap held };
 
     ghost meaning = { λ store held. value_in store.heap.texts.items held };
 
     ghost key_of = { λ store. K.key_of store.keys };
-
-    ghost log = { λ store. K.log store.keys };
 
     ghost leaves_out = { λ store. K.leaves_out store.keys };
 
@@ -154,6 +152,13 @@ impl<K: Keys> Store for PlainStore<K> {
         }
     }
 
+    fn used(&mut self, key: Key) -> Result<(), NoMemory> {
+        match self.keys.used(key) {
+            Ok(()) => Ok(()),
+            Err(_) => Err(NoMemory),
+        }
+    }
+
     fn own(&self, node: u32, key: Key) -> Option<PlainValue> {
         match place_of(&self.keys, key, self.heap.properties(node)) {
             Some(place) => Some(self.heap.property(node, place)),
@@ -169,8 +174,18 @@ impl<K: Keys> Store for PlainStore<K> {
             }
             None => {
                 let text = self.keys.text(key)?;
-                self.heap.create(node, text, *held)
+                self.heap.create(node, text, key, *held)
             }
+        }
+    }
+
+    fn write_own(&mut self, node: u32, key: Key, held: &PlainValue) -> bool {
+        match place_of(&self.keys, key, self.heap.properties(node)) {
+            Some(place) => {
+                self.heap.write(node, place, *held);
+                true
+            }
+            None => false,
         }
     }
 

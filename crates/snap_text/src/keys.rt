@@ -28,6 +28,16 @@ pub trait Keys: Drop {
         ensures err { OnErr result (log self.new ≡ log self.old) }
         ensures left_out { (other : List ℕ) → leaves_out self.new other ≡ leaves_out self.old other };
 
+    /// Counts a use of a key that `key` gave or that was there from the start: the log grows as `key` would have it
+    /// grow for the key's text.
+    fn used(&mut self, key: Key) -> Result<(), NoMemory>
+        requires { HasText (key_of self.old) key }
+        ensures kept { Keeps (key_of self.old) (key_of self.new) }
+        ensures ok { (text : List ℕ) → key_of self.old text ≡ Some key
+            → OnOk result (log self.new ≡ logged (leaves_out self.old) text (log self.old)) }
+        ensures err { OnErr result (log self.new ≡ log self.old) }
+        ensures left_out { (other : List ℕ) → leaves_out self.new other ≡ leaves_out self.old other };
+
     /// The text of a key that `key` gave or that was there from the start.
     fn text(&self, key: Key) -> Result<Units, NoMemory>
         requires { HasText (key_of self.now) key }

@@ -80,6 +80,14 @@ impl Keys for OwnKeys {
         Ok(Key::Local(number as u32))
     }
 
+    /// It takes no memory, and there is no log.
+    fn used(&mut self, _key: Key) -> Result<(), NoMemory>
+        ensures same { self.new ≡ self.old }
+        ensures is_ok { IsOk result }
+    {
+        Ok(())
+    }
+
     fn text(&self, key: Key) -> Result<Units, NoMemory> {
         Units::of(self.alloc, self.units_of(key))
     }

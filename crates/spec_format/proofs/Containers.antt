@@ -6,6 +6,7 @@ use Rattle.std.proofs.lemmas.List.{length-append, take_all, take_at, drop_at, ta
 use Rattle.std.proofs.lemmas.List.FromFn.{length-map-range_with_len, fill_by_all}
 use Rattle.sha2.specs.Sha256.{sha256}
 use Rattle.sha2.proofs.Facts256.{length-sha256}
+use Rattle.snap_base.specs.declared.limits.TheConstants.{MOST_BLOB_BYTES}
 use Rattle.spec_format.specs.Check.{AllHold, each}
 use Rattle.spec_format.specs.Number.{AreBytes, ends_from, number32, spelled32}
 use Rattle.spec_format.specs.Container.{magic, section_count, end_entry, section_start, section_end, section, section_checks, last_check, container_checks, sections_of, payload, container, AreSections}
@@ -15,7 +16,7 @@ use Rattle.spec_format.proofs.Pieces.{slice_then, AreBytes-slice_range, length-s
 
 -- what the checks of a container say
 pub record IsChecked (bytes : List ℕ) : Type 0 where
-  pub short : length bytes ≤ 67108864
+  pub short : length bytes ≤ MOST_BLOB_BYTES
   pub long : 52 ≤ length bytes
   pub magic_is : take 8 bytes ≡ magic
   pub format_is : number32 bytes 8 ≡ 1

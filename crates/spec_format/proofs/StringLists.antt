@@ -4,6 +4,7 @@ use Rattle.std.specs.Prelude.{All, map, slice_range}
 use Rattle.std.specs.List.{range_with_len, flat_map, concat}
 use Rattle.std.proofs.lemmas.List.{length-append, take-append-drop, drop_all}
 use Rattle.std.proofs.lemmas.List.FromFn.{length-map-range_with_len, fill_by_all}
+use Rattle.snap_base.specs.declared.limits.TheConstants.{MOST_ITEMS}
 use Rattle.spec_format.specs.Check.{AllHold, each}
 use Rattle.spec_format.specs.Number.{AreBytes, ends_from, number32, spelled32}
 use Rattle.spec_format.specs.Laws.{AreNodeEnds, IsSpelledWith}
@@ -17,7 +18,7 @@ pub record IsChecked (section : List ℕ) : Type 0 where
   pub counts : 8 ≤ length section
   pub string_entries : (i : ℕ) → i < string_count section → string_end_entry i + 4 ≤ length section
   pub ordered : (i : ℕ) → i < string_count section → end_before section i ≤ string_end section i
-  pub short : (i : ℕ) → i < string_count section → string_end section i - end_before section i ≤ 16777216
+  pub short : (i : ℕ) → i < string_count section → string_end section i - end_before section i ≤ MOST_ITEMS
   pub node_entries : (j : ℕ) → j < node_count section → node_end_entry section j + 4 ≤ length section
   pub within : (i : ℕ) → i < string_count section → first_byte section (suc i) ≤ length section
   pub above : (i : ℕ) → i < string_count section → IsAboveBefore section i
@@ -116,7 +117,7 @@ strings_hold section fits c =
     record {
       few = rw (length-map-range_with_len (string section) 0 count) (number32-lt section 0 fits);
       bytes = All-made AreBytes (string section) count (λ i lt. AreBytes-slice_range section (first_byte section i) (first_byte section (suc i)) fits);
-      short = All-made (λ s. length s ≤ 16777216) (string section) count (λ i lt. let own = length-string section c i lt in let h = c.short i lt in omega (arith, own, h));
+      short = All-made (λ s. length s ≤ MOST_ITEMS) (string section) count (λ i lt. let own = length-string section c i lt in let h = c.short i lt in omega (arith, own, h));
       fits = omega (arith, total, len, last);
       ascending = ascending_from section 0 count (λ i lt. c.above (suc i) (omega arith));
     }

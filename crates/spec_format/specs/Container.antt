@@ -9,6 +9,7 @@
 use Rattle.std.specs.Prelude.{◌≡◌, ℕ, zero, suc, ◌+◌, ◌-◌, ◌*◌, ◌≤◌, All, List, [], ◌∷◌, ◌++◌, length, take, drop, map, slice_range}
 use Rattle.std.specs.List.{range_with_len, flat_map, concat}
 use Rattle.sha2.specs.Sha256.{sha256}
+use Rattle.snap_base.specs.declared.limits.TheConstants.{MOST_BLOB_BYTES}
 use Rattle.spec_format.specs.declared.fault.BlobKind.TheVariants.{TooLong, TooShort, BadMagic, BadVersion, BadLength, BadDigest, BadSections}
 use Rattle.spec_format.specs.Check.{Check, check, each}
 use Rattle.spec_format.specs.Number.{AreBytes, ends_from, number32, spelled32}
@@ -46,7 +47,7 @@ HasSectionEnds bytes = (4 ≤ section_count bytes) × (section_count bytes ≤ 1
 
 abbrev pub header_checks : List ℕ → List Check
 header_checks bytes =
-    check (length bytes ≤ 67108864) TooLong 67108864
+    check (length bytes ≤ MOST_BLOB_BYTES) TooLong MOST_BLOB_BYTES
     ∷ check (52 ≤ length bytes) TooShort (length bytes)
     ∷ check (take 8 bytes ≡ magic) BadMagic 0
     ∷ check (number32 bytes 8 ≡ 1) BadVersion 8
@@ -89,4 +90,4 @@ pub record AreSections (sections : List (List ℕ)) : Type 0 where
   pub least : 4 ≤ length sections
   pub most : length sections ≤ 19
   pub bytes : All AreBytes sections
-  pub fits : 48 + length (payload sections) ≤ 67108864
+  pub fits : 48 + length (payload sections) ≤ MOST_BLOB_BYTES

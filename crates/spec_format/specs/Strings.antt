@@ -10,6 +10,7 @@ use Rattle.std.specs.List.{range_with_len, flat_map, concat}
 use Rattle.std.specs.Cmp.Lexicographic.{slice_cmp}
 use Rattle.std.specs.Ordering.{nat_cmp}
 use Rattle.std.specs.declared.cmp.Ordering.TheVariants.{Less}
+use Rattle.snap_base.specs.declared.limits.TheConstants.{MOST_ITEMS}
 use Rattle.spec_format.specs.declared.fault.BlobKind.TheVariants.{Truncated, BadString, Trailing}
 use Rattle.spec_format.specs.Check.{Check, check, each}
 use Rattle.spec_format.specs.Number.{AreBytes, ends_from, number32, spelled32}
@@ -72,7 +73,7 @@ count_checks section base = fits section base 0 4 ∷ fits section base 4 4 ∷ 
 abbrev pub string_end_checks : List ℕ → ℕ → ℕ → List Check
 string_end_checks section base i =
     fits section base (string_end_entry i) 4
-    ∷ check ((end_before section i ≤ string_end section i) × (string_end section i - end_before section i ≤ 16777216)) BadString (base + string_end_entry i)
+    ∷ check ((end_before section i ≤ string_end section i) × (string_end section i - end_before section i ≤ MOST_ITEMS)) BadString (base + string_end_entry i)
     ∷ []
 
 abbrev pub node_end_checks : List ℕ → ℕ → ℕ → List Check
@@ -111,7 +112,7 @@ IsAscending (s ∷ t ∷ rest) = IsBelow s t × IsAscending (t ∷ rest)
 pub record AreStrings (strings : List (List ℕ)) : Type 0 where
   pub few : length strings < 2 ^ 32
   pub bytes : All AreBytes strings
-  pub short : All (λ s. length s ≤ 16777216) strings
+  pub short : All (λ s. length s ≤ MOST_ITEMS) strings
   pub fits : length (concat strings) < 2 ^ 32
   pub ascending : IsAscending strings
 

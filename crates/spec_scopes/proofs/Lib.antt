@@ -1,4 +1,5 @@
 pub mod Firsts
+pub mod InOrder
 pub mod Resolved
 pub mod Rounds
 pub mod Spans

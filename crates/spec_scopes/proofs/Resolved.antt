@@ -1,10 +1,17 @@
 -- A tree has one account of its scopes.
-use Rattle.std.proofs.Common.{◌≡◌, ℕ, zero, suc, ◌<◌, List, [], ◌∷◌, length, refl, sym, ◌∙◌, arith}
+use Rattle.std.proofs.Common.{◌≡◌, ℕ, zero, suc, ◌<◌, List, [], ◌∷◌, length, refl, sym, ap, ◌∙◌, arith}
 use Rattle.std.specs.Prelude.{slice_get, Some}
+use Rattle.std.specs.Option.{option_map}
+use Rattle.std.proofs.lemmas.List.{length-map}
+use Rattle.std.proofs.lemmas.Option.{get_or_from_slice_get, slice_get-map, slice_get_within}
 use Rattle.snap_ast.specs.Lawful.{Lawful}
 use Rattle.snap_ast.specs.declared.tree.Tree.{Tree}
-use Rattle.spec_scopes.specs.Resolution.{AreScopes, NodeScopes, Resolution}
-use Rattle.spec_scopes.specs.Scopes.{Scope}
+use Rattle.snap_ast.specs.declared.tree.TreeNode.{TreeNode}
+use Rattle.spec_scopes.specs.Names.{mentions}
+use Rattle.spec_scopes.specs.Resolution.{AreScopes, AreTogether, NodeScopes, Resolution, node_scopes}
+use Rattle.spec_scopes.specs.Round.{chain}
+use Rattle.spec_scopes.specs.Scopes.{Scope, made}
+use Rattle.spec_scopes.specs.Slots.{place_of, places}
 use Rattle.spec_scopes.proofs.Standing.{some_round}
 
 -- what stands at a place of a list
@@ -35,3 +42,23 @@ one_resolution tree resolution other lawful are also =
     let round = some_round tree i lawful in_table in
     are.nodes i node.0 round.0 node.1 round.1 ∙ sym (also.nodes i node.0 round.0 node.1 round.1)) in
     alike_parts resolution.script other.script resolution.nodes other.nodes (are.script ∙ sym also.script) nodes
+
+-- what is known of a node of the tree
+known_at : (tree : Tree) (resolution : Resolution) (number : ℕ) (node : TreeNode) → AreTogether tree resolution → slice_get tree.nodes number ≡ Some node
+    → (round : List Scope) × (node_scopes resolution number ≡ record { round = round; own = made tree.nodes node.form; names = places round node.form })
+known_at tree resolution number node together stands =
+    let steps = some_round tree number together.0 (slice_get_within tree.nodes number node stands) in
+    (chain tree steps.0, get_or_from_slice_get resolution.nodes number _ _ (together.1.nodes number node steps.0 stands steps.1))
+
+pub names_counted : (tree : Tree) (resolution : Resolution) (number : ℕ) (node : TreeNode) → AreTogether tree resolution → slice_get tree.nodes number ≡ Some node
+    → length (node_scopes resolution number).names ≡ length (mentions node.form)
+names_counted tree resolution number node together stands =
+    let it = known_at tree resolution number node together stands in
+    ap (λ (known : NodeScopes). length known.names) it.1 ∙ length-map (mentions node.form) (place_of it.0)
+
+pub names_placed : (tree : Tree) (resolution : Resolution) (number i : ℕ) (node : TreeNode) (name : List ℕ) → AreTogether tree resolution → slice_get tree.nodes number ≡ Some node → slice_get (mentions node.form) i ≡ Some name
+    → slice_get (node_scopes resolution number).names i ≡ Some (place_of (node_scopes resolution number).round name)
+names_placed tree resolution number i node name together stands e =
+    let it = known_at tree resolution number node together stands in
+    ap (λ (known : NodeScopes). slice_get known.names i) it.1 ∙ slice_get-map (place_of it.0) (mentions node.form) i ∙ ap (option_map (place_of it.0)) e
+    ∙ ap (λ (round : List Scope). Some (place_of round name)) (sym (ap (λ (known : NodeScopes). known.round) it.1))

@@ -1,4 +1,4 @@
--- Which names statements declare, in order.
+-- Which names statements declare, and which names nodes mention, in order.
 use Rattle.std.specs.Prelude.{ℕ, Bool, true, false, List, [], ◌∷◌, ◌++◌, map, slice_get}
 use Rattle.std.specs.Option.{option_map_or}
 use Rattle.snap_ast.specs.declared.form.Form.{Form}
@@ -39,6 +39,14 @@ declares (f.Let bindings) = let_names bindings
 declares (f.Const bindings) = const_names bindings
 declares (f.Function name parameters body) = variable name ∷ []
 declares form = []
+
+-- the names that a node reads, writes or declares in the scopes round it, in order of the source. Not among them are the names
+-- of a scope that it makes itself: parameters, the head of a loop, the name of a catch.
+abbrev pub mentions : Form → List (List ℕ)
+mentions (f.Name name) = name ∷ []
+mentions (f.AssignName name operator value) = name.name ∷ []
+mentions (f.UpdateName operator is_prefix name) = name.name ∷ []
+mentions form = map (λ declared. declared.named.name) (declares form)
 
 -- what stands at a node
 abbrev pub form_at : List TreeNode → ℕ → Form

@@ -5,11 +5,14 @@ use Rattle.snap_ast.specs.declared.tree.Tree.{Tree}
 use Rattle.snap_ast.specs.declared.tree.TreeNode.{TreeNode}
 use Rattle.spec_scopes.specs.Round.{Step, Stands, chain}
 use Rattle.spec_scopes.specs.Scopes.{Scope, made, script_scope}
+use Rattle.spec_scopes.specs.Slots.{places}
+use Rattle.spec_scopes.specs.declared.place.SlotPlace.{SlotPlace}
 
--- the chain of scopes round a node, and the scope that the node makes
+-- the chain of scopes round a node, the scope that the node makes, and the places of the names that it mentions
 pub record NodeScopes : Type 0 where
   pub round : List Scope
   pub own : Option Scope
+  pub names : List (Option SlotPlace)
 
 -- the scope of the script, and the scopes of each node, by number
 pub record Resolution : Type 0 where
@@ -18,14 +21,14 @@ pub record Resolution : Type 0 where
 
 -- what is known of a node
 abbrev pub node_scopes : Resolution → ℕ → NodeScopes
-node_scopes resolution number = get_or resolution.nodes number (record { round = []; own = None })
+node_scopes resolution number = get_or resolution.nodes number (record { round = []; own = None; names = [] })
 
 -- these are the scopes of the tree
 pub record AreScopes (tree : Tree) (resolution : Resolution) : Type 0 where
   pub script : resolution.script ≡ script_scope tree
   pub count : length resolution.nodes ≡ length tree.nodes
   pub nodes : (number : ℕ) (node : TreeNode) (steps : List Step) → slice_get tree.nodes number ≡ Some node → Stands tree number steps
-      → slice_get resolution.nodes number ≡ Some (record { round = chain tree steps; own = made tree.nodes node.form })
+      → slice_get resolution.nodes number ≡ Some (record { round = chain tree steps; own = made tree.nodes node.form; names = places (chain tree steps) node.form })
 
 -- a lawful tree with its own scopes
 abbrev pub AreTogether : Tree → Resolution → Type 0

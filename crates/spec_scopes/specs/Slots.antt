@@ -1,8 +1,10 @@
--- The slot of a name.
-use Rattle.std.specs.Prelude.{ℕ, suc, List, [], ◌∷◌, get_or, position, false, Option, None, Some}
+-- The slot of a name, and those of the names that a node mentions.
+use Rattle.std.specs.Prelude.{ℕ, suc, List, [], ◌∷◌, map, get_or, position, false, Option, None, Some}
 use Rattle.std.specs.Option.{option_map}
 use Rattle.std.specs.Str.{bytes_eq as text_eq}
+use Rattle.snap_ast.specs.declared.form.Form.{Form}
 use Rattle.spec_scopes.specs.declared.place.SlotPlace.{SlotPlace}
+use Rattle.spec_scopes.specs.Names.{mentions}
 use Rattle.spec_scopes.specs.Scopes.{Scope, Slot}
 
 abbrev pub nameless : Slot
@@ -28,3 +30,7 @@ first_place None outer = option_map further outer
 abbrev pub place_of : List Scope → List ℕ → Option SlotPlace
 place_of [] name = None
 place_of (scope ∷ chain) name = first_place (place_in scope.slots name) (place_of chain name)
+
+-- the places of the names that a node mentions, in the chain round it; none is the place of a global
+abbrev pub places : List Scope → Form → List (Option SlotPlace)
+places chain form = map (place_of chain) (mentions form)

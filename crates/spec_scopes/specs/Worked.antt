@@ -1,5 +1,5 @@
 -- How worked trees are written down.
-use Rattle.std.specs.Prelude.{ℕ, Bool, List, [], ◌∷◌, map, codes, None}
+use Rattle.std.specs.Prelude.{ℕ, Bool, List, [], ◌∷◌, map, codes, Option, None, Some}
 use Prim.Native.String.{String}
 use Rattle.snap_ast.specs.declared.form.Form.{Form}
 use Rattle.snap_ast.specs.declared.form.Form.TheVariants.{Let}
@@ -10,6 +10,8 @@ use Rattle.snap_graph.specs.declared.kind.ScopeKind.{ScopeKind}
 use Rattle.spec_scopes.specs.Names.{form_at}
 use Rattle.spec_scopes.specs.Round.{Step, chain, step}
 use Rattle.spec_scopes.specs.Scopes.{Scope, Slot}
+use Rattle.spec_scopes.specs.Slots.{places}
+use Rattle.spec_scopes.specs.declared.place.SlotPlace.{SlotPlace}
 
 abbrev pub named : String → ℕ → Named
 named name at = record { name = codes name; at = at }
@@ -38,3 +40,10 @@ slot name is_constant = record { name = codes name; is_constant = is_constant }
 
 abbrev pub scope : ScopeKind → List Slot → Scope
 scope kind slots = record { kind = kind; slots = slots }
+
+-- the places of the names that a node mentions, with the nodes round it by their numbers, innermost first
+abbrev pub places_at : Tree → ℕ → List ℕ → List (Option SlotPlace)
+places_at tree number parents = places (chain_at tree number parents) (form_at tree.nodes number)
+
+abbrev pub place : ℕ → ℕ → Bool → Option SlotPlace
+place hops slot constant = Some (record { hops = hops; slot = slot; constant = constant })

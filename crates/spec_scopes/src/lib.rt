@@ -9,7 +9,9 @@ mod place;
 mod rows;
 
 pub use fault::ScopeFault;
-pub use laws::{one_early_error, one_resolution, one_round};
+pub use laws::{names_are_resolved, one_early_error, one_resolution, one_round, slots_in_order};
 pub use need::ScopeNeed;
 pub use place::SlotPlace;
-pub use rows::{worked_block, worked_catch, worked_function, worked_loop, worked_told};
+pub use rows::{
+    worked_block, worked_catch, worked_function, worked_loop, worked_told, worked_writes,
+};

@@ -2,6 +2,8 @@
 
 ghost use Rattle.std.specs.Prelude.{◌≡◌, ◌∷◌, [], true, false, codes, None, Some};
 ghost use Rattle.snap_ast.specs.declared.form.Form.TheVariants as f;
+ghost use Rattle.snap_ast.specs.declared.operator.AssignOperator.TheVariants.{Plain};
+ghost use Rattle.snap_ast.specs.declared.operator.UpdateOperator.TheVariants.{Increment};
 ghost use Rattle.snap_ast.specs.declared.part.ConstBinding.TheVariants.{One, Pattern};
 ghost use Rattle.snap_graph.specs.declared.kind.ScopeKind.TheVariants as kind;
 ghost use Rattle.spec_scopes.specs.EarlyErrors.{is_stray};
@@ -10,7 +12,7 @@ ghost use Rattle.spec_scopes.specs.Round.{in_function, in_loop};
 ghost use Rattle.spec_scopes.specs.Scopes.{made, names_apart};
 ghost use Rattle.spec_scopes.specs.Slots.{place_of};
 ghost use Rattle.spec_scopes.specs.Told.{early_error, round_of};
-ghost use Rattle.spec_scopes.specs.Worked.{chain_at, let_of, named, nodes_of, round, scope, slot, tree};
+ghost use Rattle.spec_scopes.specs.Worked.{chain_at, let_of, named, nodes_of, place, places_at, round, scope, slot, tree};
 ghost use Rattle.spec_scopes.specs.declared.fault.ScopeFault.TheVariants as fault;
 
 /// `let a; { const { b, c } = a; }`: the value stands in the block's scope, the block itself does not.
@@ -22,7 +24,11 @@ pub fn worked_block()
         × (chain_at it 1 [] ≡ script ∷ [])
         × (place_of (chain_at it 3 (2 ∷ 1 ∷ [])) (codes "c") ≡ Some (record { hops = 0; slot = 1; constant = true }))
         × (place_of (chain_at it 3 (2 ∷ 1 ∷ [])) (codes "a") ≡ Some (record { hops = 1; slot = 0; constant = false }))
-        × (place_of (chain_at it 3 (2 ∷ 1 ∷ [])) (codes "d") ≡ None) }
+        × (place_of (chain_at it 3 (2 ∷ 1 ∷ [])) (codes "d") ≡ None)
+        × (places_at it 0 [] ≡ place 0 0 false ∷ [])
+        × (places_at it 1 [] ≡ [])
+        × (places_at it 2 (1 ∷ []) ≡ place 0 0 true ∷ place 0 1 true ∷ [])
+        × (places_at it 3 (2 ∷ 1 ∷ []) ≡ place 1 0 false ∷ []) }
 {}
 
 /// `for (const x of y) { () => { return x; } }`: what is gone through and the body stand in the loop's scope;
@@ -33,6 +39,9 @@ pub fn worked_loop()
         let it = tree (f.ForOf true (named "x" 11) 1 2 ∷ f.Name (codes "y") ∷ f.Block (3 ∷ []) ∷ f.Expression 4 ∷ f.ArrowBody [] (5 ∷ []) ∷ f.Return (Some 6) ∷ f.Name (codes "x") ∷ []) (0 ∷ []) in
         (chain_at it 1 (0 ∷ []) ≡ head ∷ script ∷ [])
         × (chain_at it 6 (5 ∷ 4 ∷ 3 ∷ 2 ∷ 0 ∷ []) ≡ head ∷ script ∷ [])
+        × (places_at it 0 [] ≡ [])
+        × (places_at it 1 (0 ∷ []) ≡ None ∷ [])
+        × (places_at it 6 (5 ∷ 4 ∷ 3 ∷ 2 ∷ 0 ∷ []) ≡ place 0 0 true ∷ [])
         × (in_loop (round it 3 (2 ∷ 0 ∷ [])) ≡ true)
         × (in_loop (round it 5 (4 ∷ 3 ∷ 2 ∷ 0 ∷ [])) ≡ false)
         × (is_stray (f.Return None) (round it 5 (4 ∷ 3 ∷ 2 ∷ 0 ∷ [])) ≡ false)
@@ -60,8 +69,23 @@ pub fn worked_function()
         let it = tree forms (0 ∷ []) in
         (chain_at it 2 (1 ∷ 0 ∷ []) ≡ scope kind.Function (slot "p" false ∷ slot "q" true ∷ []) ∷ scope kind.Script (slot "f" false ∷ []) ∷ [])
         × (chain_at it 0 [] ≡ scope kind.Script (slot "f" false ∷ []) ∷ [])
+        × (places_at it 0 [] ≡ place 0 0 false ∷ [])
+        × (places_at it 1 (0 ∷ []) ≡ place 0 1 true ∷ [])
+        × (places_at it 2 (1 ∷ 0 ∷ []) ≡ place 0 0 false ∷ [])
         × (names_apart (nodes_of forms) (f.Function (named "f" 9) (named "p" 11 ∷ []) (1 ∷ [])) ≡ variable (named "p" 11) ∷ constant (named "q" 22) ∷ [])
         × (made (nodes_of forms) (f.ArrowValue [] 2) ≡ None) }
+{}
+
+/// `let a; { a = b; a++; let c, a; }`: the `a` that is written in the block is the block's own, which is declared behind
+/// it; `b` is a global.
+pub fn worked_writes()
+    ensures { let forms = let_of (named "a" 4 ∷ []) ∷ f.Block (2 ∷ 5 ∷ 7 ∷ []) ∷ f.Expression 3 ∷ f.AssignName (named "a" 9) Plain 4 ∷ f.Name (codes "b") ∷ f.Expression 6 ∷ f.UpdateName Increment false (named "a" 16) ∷ let_of (named "c" 25 ∷ named "a" 28 ∷ []) ∷ [] in
+        let it = tree forms (0 ∷ 1 ∷ []) in
+        (places_at it 3 (2 ∷ 1 ∷ []) ≡ place 0 1 false ∷ [])
+        × (places_at it 4 (3 ∷ 2 ∷ 1 ∷ []) ≡ None ∷ [])
+        × (places_at it 6 (5 ∷ 1 ∷ []) ≡ place 0 1 false ∷ [])
+        × (places_at it 7 (1 ∷ []) ≡ place 0 0 false ∷ place 0 1 false ∷ [])
+        × (places_at it 0 [] ≡ place 0 0 false ∷ []) }
 {}
 
 /// Of several early errors one is told. The names of the script come first: of `break; let a; let a;` the name.

@@ -4,6 +4,7 @@ use Rattle.std.specs.Prelude.{ℕ, ◌+◌, ◌*◌, ◌==◌, ℤ, pos, negsuc,
 use Rattle.std.specs.List.{flat_map}
 use Rattle.std.specs.Str.{bytes_eq}
 use Rattle.spec_format.specs.Varint.{varint}
+use Rattle.snap_graph.specs.declared.intrinsic.TheConstants.{GLOBAL_OBJECT}
 use Rattle.snap_graph.specs.declared.value.Value.{Value}
 use Rattle.snap_graph.specs.declared.value.Value.TheVariants.{Undefined, Null, Bool, Int, Text, Node, Empty}
 
@@ -18,7 +19,7 @@ text_number strings text = unwrap_or (position (bytes_eq text) strings) 0
 
 -- the number of the global object: the node behind the intrinsics
 abbrev pub global_node : ℕ
-global_node = 62
+global_node = GLOBAL_OBJECT
 
 -- a value; the global object is the private node that was brought in before, and other nodes are intrinsics
 abbrev pub value_bytes : List (List ℕ) → Value → List ℕ

@@ -12,7 +12,7 @@ use Rattle.snap_graph.specs.Intrinsics.{constructors, error_prototype, host_obje
 use Rattle.snap_graph.specs.Lawful.{IsLawful, IsPrototype}
 use Rattle.snap_graph.specs.Values.{IsValue}
 use Rattle.spec_values.specs.Access.{type_error}
-use Rattle.spec_values.specs.Answer.{Action, Answer, Gave, Heap, Stopped, Threw, followed, throw_value}
+use Rattle.spec_values.specs.Answer.{Action, HeapAnswer, Gave, Heap, Stopped, Threw, followed, throw_value}
 use Rattle.spec_values.specs.Leaving.{LeavesHeap}
 use Rattle.spec_values.specs.Operations.{make, new_node, own_value, properties_of, put_own, put_under, with_nodes, with_own, with_properties}
 use Rattle.spec_values.proofs.Changes.{length-changed}
@@ -20,18 +20,18 @@ use Rattle.spec_values.proofs.Elements.{with_own_lawful}
 use Rattle.spec_values.proofs.Made.{made_lawful}
 
 -- a result has P, and every other end leaves a heap
-pub Ends : {A : Type 0} → (A → Heap → Type 0) → Answer A → Type 0
+pub Ends : {A : Type 0} → (A → Heap → Type 0) → HeapAnswer A → Type 0
 Ends P (Gave a h) = P a h
 Ends P (Threw v h) = IsLawful h.nodes × IsValue (length h.nodes) v
 Ends P (Stopped why h) = IsLawful h.nodes
 
-pub leaves : {A : Type 0} (P : A → Heap → Type 0) → ((a : A) (h : Heap) → P a h → IsLawful h.nodes) → (answer : Answer A) → Ends P answer → LeavesHeap answer
+pub leaves : {A : Type 0} (P : A → Heap → Type 0) → ((a : A) (h : Heap) → P a h → IsLawful h.nodes) → (answer : HeapAnswer A) → Ends P answer → LeavesHeap answer
 unfolding Ends
 leaves P lawful (Gave a h) e = lawful a h e
 leaves P lawful (Threw v h) e = e
 leaves P lawful (Stopped why h) e = e
 
-pub ends_then : {A B : Type 0} (P : A → Heap → Type 0) (Q : B → Heap → Type 0) (answer : Answer A) (next : A → Action B) → Ends P answer → ((a : A) (h : Heap) → P a h → Ends Q (next a h)) → Ends Q (followed answer next)
+pub ends_then : {A B : Type 0} (P : A → Heap → Type 0) (Q : B → Heap → Type 0) (answer : HeapAnswer A) (next : A → Action B) → Ends P answer → ((a : A) (h : Heap) → P a h → Ends Q (next a h)) → Ends Q (followed answer next)
 unfolding Ends
 ends_then P Q (Gave a h) next e f = f a h e
 ends_then P Q (Threw v h) next e f = e
@@ -54,7 +54,7 @@ unfolding Ends
 thrown P v h lawful within = (lawful, within)
 
 -- an answer that is chosen
-pub one_of : {A : Type 0} (P : A → Heap → Type 0) (b : Bool) (x y : Answer A) → (b ≡ true → Ends P x) → (b ≡ false → Ends P y) → Ends P (if b then x else y)
+pub one_of : {A : Type 0} (P : A → Heap → Type 0) (b : Bool) (x y : HeapAnswer A) → (b ≡ true → Ends P x) → (b ≡ false → Ends P y) → Ends P (if b then x else y)
 one_of P true x y f g = f refl
 one_of P false x y f g = g refl
 
@@ -121,7 +121,7 @@ throws Q message heap lawful =
     (λ error h made. message_ends Q message heap.nodes error (record { nodes = h.nodes; private_nodes = h.private_nodes; keys = h.keys ++ codes "message" ∷ [] }) lawful made.0 made.1)
 
 -- a weaker fact of the result
-pub weaker : {A : Type 0} (P Q : A → Heap → Type 0) → ((a : A) (h : Heap) → P a h → Q a h) → (answer : Answer A) → Ends P answer → Ends Q answer
+pub weaker : {A : Type 0} (P Q : A → Heap → Type 0) → ((a : A) (h : Heap) → P a h → Q a h) → (answer : HeapAnswer A) → Ends P answer → Ends Q answer
 unfolding Ends
 weaker P Q f (Gave a h) e = f a h e
 weaker P Q f (Threw v h) e = e

@@ -13,7 +13,7 @@ use Rattle.snap_graph.specs.declared.value.Property.{Property}
 use Rattle.snap_graph.specs.declared.value.Value.{Value}
 use Rattle.snap_graph.specs.declared.value.Value.TheVariants.{Undefined, Null, Bool as Truth, Int, Text, Node as At, Empty}
 use Rattle.spec_values.specs.Access.{delete, delete_named, delete_of_node, delete_of_text, element_of, entry_count, found_or, get, get_of_node, get_of_text, index_of, is_array, is_length, is_size, is_special, kind_of, look_up, may_write, named_key, not_writable, or_stop, reached_from, set, set_element_of, set_named, set_of_node, set_of_text, size_of, size_or_throw, type_error}
-use Rattle.spec_values.specs.Answer.{Action, Answer, Gave, Heap, Stopped, Threw, followed, give, stop, throw_value}
+use Rattle.spec_values.specs.Answer.{Action, HeapAnswer, Gave, Heap, Stopped, Threw, followed, give, stop, throw_value}
 use Rattle.spec_values.specs.Conversions.{text_of}
 use Rattle.spec_values.specs.Leaving.{LeavesNodes, StandStill}
 use Rattle.spec_values.specs.Operations.{changed, elements_of, is_frozen, make, new_node, own_value, properties_of, push_element, put_own, put_under, remove_under, with_element, with_elements, with_more, with_nodes, with_own, with_properties, without_own}
@@ -60,7 +60,7 @@ elements_still change nodes number an_array =
     changed_still (with_elements change) nodes number (λ node. refl) (λ node. refl) (λ node e other. let same : is.0 ≡ node = cc in absurd (other (sym (ap (λ (n : Node). n.kind) same) ∙ is.2)))
 
 module _ (nodes : List Node) where
-  chosen : {A : Type 0} (b : Bool) (x y : Answer A) → LeavesNodes nodes x → LeavesNodes nodes y → LeavesNodes nodes (if b then x else y)
+  chosen : {A : Type 0} (b : Bool) (x y : HeapAnswer A) → LeavesNodes nodes x → LeavesNodes nodes y → LeavesNodes nodes (if b then x else y)
   chosen true x y f g = f
   chosen false x y f g = g
 
@@ -68,7 +68,7 @@ module _ (nodes : List Node) where
   done true x y h f g = f
   done false x y h f g = g
 
-  then_still : {A B : Type 0} (answer : Answer A) (next : A → Action B) → LeavesNodes nodes answer → ((a : A) (h : Heap) → StandStill nodes h.nodes → LeavesNodes nodes (next a h)) → LeavesNodes nodes (followed answer next)
+  then_still : {A B : Type 0} (answer : HeapAnswer A) (next : A → Action B) → LeavesNodes nodes answer → ((a : A) (h : Heap) → StandStill nodes h.nodes → LeavesNodes nodes (next a h)) → LeavesNodes nodes (followed answer next)
   then_still (Gave a h) next e f = f a h e
   then_still (Threw v h) next e f = e
   then_still (Stopped why h) next e f = e

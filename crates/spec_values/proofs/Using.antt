@@ -12,14 +12,14 @@ use Rattle.snap_graph.specs.declared.node.Node.{Node}
 use Rattle.snap_graph.specs.declared.value.Value.{Value}
 use Rattle.snap_graph.specs.declared.value.Value.TheVariants.{Undefined, Null, Bool as Truth, Int, Text, Node as At, Empty}
 use Rattle.spec_values.specs.Access.{delete, delete_named, delete_of_node, delete_of_text, element_of, entry_count, found_or, get, get_of_node, get_of_text, index_of, is_length, is_size, is_special, kind_of, look_up, may_write, named_key, not_writable, or_stop, reached_from, set, set_element_of, set_named, set_of_node, set_of_text, size_of, size_or_throw, type_error}
-use Rattle.spec_values.specs.Answer.{Action, Answer, Gave, Heap, Stopped, Threw, followed, give, stop, throw_value}
+use Rattle.spec_values.specs.Answer.{Action, HeapAnswer, Gave, Heap, Stopped, Threw, followed, give, stop, throw_value}
 use Rattle.spec_values.specs.Conversions.{text_of}
 use Rattle.spec_values.specs.Operations.{elements_of, is_frozen, new_node, own_value, properties_of, push_element, put_own, with_element, with_more, with_nodes, with_own, without_own}
 use Rattle.spec_values.specs.Uses.{HasUsed, text_used, used_by, used_unless}
 use Rattle.spec_values.proofs.Ending.{read_last}
 
 module _ (keys : List (List ℕ)) where
-  chosen : {A : Type 0} (b : Bool) (x y : Answer A) → (b ≡ true → HasUsed keys x) → (b ≡ false → HasUsed keys y) → HasUsed keys (if b then x else y)
+  chosen : {A : Type 0} (b : Bool) (x y : HeapAnswer A) → (b ≡ true → HasUsed keys x) → (b ≡ false → HasUsed keys y) → HasUsed keys (if b then x else y)
   chosen true x y f g = f refl
   chosen false x y f g = g refl
 
@@ -27,7 +27,7 @@ module _ (keys : List (List ℕ)) where
   done true x y h f g = f
   done false x y h f g = g
 
-  then_used : {A B : Type 0} (answer : Answer A) (next : A → Action B) → HasUsed keys answer → ((a : A) (h : Heap) → h.keys ≡ keys → HasUsed keys (next a h)) → HasUsed keys (followed answer next)
+  then_used : {A B : Type 0} (answer : HeapAnswer A) (next : A → Action B) → HasUsed keys answer → ((a : A) (h : Heap) → h.keys ≡ keys → HasUsed keys (next a h)) → HasUsed keys (followed answer next)
   then_used (Gave a h) next e f = f a h e
   then_used (Threw v h) next e f = e
   then_used (Stopped why h) next e f = e
@@ -138,7 +138,7 @@ named_used {B} key heap next rest = by (text_of key) rest
     by (Err why) rest = sym (append-nil heap.keys)
 
 -- an access that uses no key
-none_used : {A : Type 0} (heap : Heap) (answer : Answer A) → HasUsed heap.keys answer → HasUsed (heap.keys ++ []) answer
+none_used : {A : Type 0} (heap : Heap) (answer : HeapAnswer A) → HasUsed heap.keys answer → HasUsed (heap.keys ++ []) answer
 none_used heap answer used = subst (λ ks. HasUsed ks answer) (sym (append-nil heap.keys)) used
 
 pub get_uses : (base key : Value) (heap : Heap) → HasUsed (heap.keys ++ used_by heap.nodes base key) (get base key heap)

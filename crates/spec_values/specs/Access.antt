@@ -4,6 +4,7 @@ use Rattle.std.specs.Option.{option_and_then}
 use Rattle.std.specs.Str.{bytes_eq as text_eq}
 use Rattle.snap_base.specs.declared.stop.Stop.{Stop}
 use Rattle.snap_base.specs.declared.stop.Stop.TheVariants.{NotInProfile}
+use Rattle.snap_graph.specs.declared.intrinsic.TheConstants.{MAP_PROTOTYPE, SET_PROTOTYPE, STRING_PROTOTYPE, TYPE_ERROR_PROTOTYPE}
 use Rattle.snap_graph.specs.declared.kind.Kind.{Kind}
 use Rattle.snap_graph.specs.declared.kind.Kind.TheVariants as kind
 use Rattle.snap_graph.specs.declared.node.Node.{Node}
@@ -11,9 +12,9 @@ use Rattle.snap_graph.specs.declared.value.Value.{Value}
 use Rattle.snap_graph.specs.declared.value.Value.TheVariants.{Undefined, Null, Bool as Truth, Int, Text, Node as At, Empty}
 use Rattle.snap_graph.specs.Lawful.{chain_from, record_keys}
 use Rattle.snap_graph.specs.OwnKeys.{array_index, index_end}
-use Rattle.spec_values.specs.Answer.{◌>>=◌, Action, Gave, give, stop, throw_value, use_key}
+use Rattle.spec_values.specs.Answer.{◌>>=◌, Action, give, stop, throw_value, use_key}
 use Rattle.spec_values.specs.Conversions.{text_of}
-use Rattle.spec_values.specs.Operations.{elements_of, is_frozen, make, own_value, push_element, put_own, with_element, with_nodes, without_own}
+use Rattle.spec_values.specs.Operations.{elements_of, is_frozen, make, own_value, push_element, put_own, remove_own, set_element}
 
 -- a result, or a stop
 abbrev pub or_stop : {A : Type 0} → Result A Stop → Action A
@@ -29,7 +30,7 @@ throw_error prototype message =
     throw_value (At error)
 
 abbrev pub type_error : {A : Type 0} → List ℕ → Action A
-type_error message = throw_error 7 message
+type_error message = throw_error TYPE_ERROR_PROTOTYPE message
 
 abbrev pub not_writable : {A : Type 0} → Action A
 not_writable = type_error (codes "not writable")
@@ -93,7 +94,7 @@ is_special (Some (kind.Resource number closed)) name = false
 
 -- `size` of Map.prototype and Set.prototype, which ECMA-262 has as accessors (24.1.3.10 and 24.2.3.9)
 abbrev pub is_size : ℕ → List ℕ → Bool
-is_size number name = (number == 4 || number == 5) && text_eq name (codes "size")
+is_size number name = (number == MAP_PROTOTYPE || number == SET_PROTOTYPE) && text_eq name (codes "size")
 
 -- `length` of an array
 abbrev pub is_length : List Node → ℕ → List ℕ → Bool
@@ -113,7 +114,7 @@ is_there (Text text) = true
 is_there (At node) = true
 is_there Empty = false
 
--- the number of entries of a Map for Map.prototype, node 4, and of a Set for Set.prototype, node 5
+-- the number of entries of a Map for Map.prototype, and of a Set for Set.prototype
 abbrev pub entry_count : ℕ → Option Kind → List Value → Option ℕ
 entry_count prototype None elements = None
 entry_count prototype (Some kind.Plain) elements = None
@@ -122,8 +123,8 @@ entry_count prototype (Some (kind.Function script tree)) elements = None
 entry_count prototype (Some (kind.Native native)) elements = None
 entry_count prototype (Some (kind.Scope scope)) elements = None
 entry_count prototype (Some kind.Error) elements = None
-entry_count prototype (Some kind.Map) elements = if prototype == 4 then Some (count_by is_there (record_keys elements)) else None
-entry_count prototype (Some kind.Set) elements = if prototype == 5 then Some (count_by is_there elements) else None
+entry_count prototype (Some kind.Map) elements = if prototype == MAP_PROTOTYPE then Some (count_by is_there (record_keys elements)) else None
+entry_count prototype (Some kind.Set) elements = if prototype == SET_PROTOTYPE then Some (count_by is_there elements) else None
 entry_count prototype (Some (kind.Resource number closed)) elements = None
 
 abbrev pub size_or_throw : Option ℕ → Action Value
@@ -162,12 +163,12 @@ abbrev pub unit_or_undefined : Option ℕ → Value
 unit_or_undefined None = Undefined
 unit_or_undefined (Some unit) = Text (unit ∷ [])
 
--- reading from a text (10.4.3.5): its units, its length, and otherwise along String.prototype, node 3
+-- reading from a text (10.4.3.5): its units, its length, and otherwise along String.prototype
 abbrev pub get_of_text : List ℕ → Value → Option ℕ → Action Value
 get_of_text text key (Some place) = give (unit_or_undefined (slice_get text place))
 get_of_text text key None =
     named_key key >>= λ name. λ heap.
-    (if text_eq name (codes "length") then give (Int (pos (length text))) else look_up (Text text) name (reached_from heap.nodes 3)) heap
+    (if text_eq name (codes "length") then give (Int (pos (length text))) else look_up (Text text) name (reached_from heap.nodes STRING_PROTOTYPE)) heap
 
 -- reading from a node: an element of an array, its length, and otherwise along the prototypes
 abbrev pub get_of_node : ℕ → Value → Option ℕ → Action Value
@@ -201,7 +202,7 @@ abbrev pub set_element_of : ℕ → ℕ → Value → Action Unit
 set_element_of number place held heap =
     let count = length (elements_of heap.nodes number) in
     (if is_frozen heap.nodes number then not_writable
-    else (if nat_lt place count then (λ h. Gave tt (with_nodes h (with_element h.nodes number place held)))
+    else (if nat_lt place count then set_element number place held
     else (if place == count then push_element number held else stop NotInProfile))) heap
 
 -- a property of a node is written, or created
@@ -235,7 +236,7 @@ abbrev pub delete_named : ℕ → List ℕ → Action Bool
 delete_named number name heap =
     (if is_special (kind_of heap.nodes number) name || is_length heap.nodes number name then stop NotInProfile
     else (if is_size number name || (is_some (own_value heap.nodes number name) && is_frozen heap.nodes number) then not_writable
-    else (λ h. Gave true (with_nodes h (without_own h.nodes number name))))) heap
+    else (remove_own number name >>= λ _. give true))) heap
 
 abbrev pub delete_of_node : ℕ → Value → Option ℕ → Action Bool
 delete_of_node number key (Some place) = stop NotInProfile

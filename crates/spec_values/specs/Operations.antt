@@ -136,3 +136,41 @@ push_element number value heap =
     if nat_le MOST_ITEMS (length (elements_of heap.nodes number))
     then Stopped TooLong heap
     else Gave tt (with_nodes heap (with_more heap.nodes number value))
+
+-- looking at the nodes of a heap
+abbrev pub see : {A : Type 0} → (List Node → A) → Action A
+see look heap = Gave (look heap.nodes) heap
+
+-- changing them
+abbrev pub change : (List Node → List Node) → Action Unit
+change make heap = Gave tt (with_nodes heap (make heap.nodes))
+
+-- an element is written in its place
+abbrev pub set_element : ℕ → ℕ → Value → Action Unit
+set_element number place value = change (λ nodes. with_element nodes number place value)
+
+-- the last element is taken, if there is one
+abbrev pub pop_element : ℕ → Action (Option Value)
+pop_element number heap =
+    let elements = elements_of heap.nodes number in
+    Gave (slice_get elements (length elements - 1)) (with_nodes heap (with_fewer heap.nodes number))
+
+-- a property is removed, if there is one
+abbrev pub remove_own : ℕ → List ℕ → Action Bool
+remove_own number key heap = Gave (is_some (own_value heap.nodes number key)) (with_nodes heap (without_own heap.nodes number key))
+
+-- a node is frozen, and a resource closed
+abbrev pub freeze : ℕ → Action Unit
+freeze number = change (λ nodes. with_frozen nodes number)
+
+abbrev pub close : ℕ → Action Unit
+close number = change (λ nodes. with_closed nodes number)
+
+-- a property is written in its place, if there is one, which it tells
+abbrev pub write_own : ℕ → List ℕ → Value → Action Bool
+write_own number key value heap =
+    if is_some (own_value heap.nodes number key) then Gave true (with_nodes heap (with_own heap.nodes number key value)) else Gave false heap
+
+-- an element is put behind those of a function or a scope, which have no limit
+abbrev pub add_element : ℕ → Value → Action Unit
+add_element number value = change (λ nodes. with_more nodes number value)

@@ -2,9 +2,10 @@
 
 ghost use Rattle.std.specs.Prelude.{◌≡◌, [], ◌∷◌, IfOk};
 
+use snap_base::MOST_BLOB_BYTES;
 use snap_blob::{
-    BLOB_LIMIT, Container, SealFault, ShapeStep, Startup, are_lawful, read_startup, seal,
-    write_startup, write_strings,
+    Container, SealFault, ShapeStep, Startup, are_lawful, read_startup, seal, write_startup,
+    write_strings,
 };
 use snap_text::{NoMemory, Units};
 use std::alloc::{AllocError, Global};
@@ -87,8 +88,8 @@ fn a_blob_is_taken(rt: HostRuntime) -> Result<(), Fail> {
 fn a_blob_has_a_limit(rt: HostRuntime) -> Result<(), Fail> {
     let alloc = rt.alloc();
     // The header, the ends and this section fill the limit and one byte more.
-    let mut long = vec![in alloc; 7u8; BLOB_LIMIT as usize - 67]?;
-    for expected in [Err(SealFault::TooLong), Ok(BLOB_LIMIT as usize)] {
+    let mut long = vec![in alloc; 7u8; MOST_BLOB_BYTES as usize - 67]?;
+    for expected in [Err(SealFault::TooLong), Ok(MOST_BLOB_BYTES as usize)] {
         let mut sections = owned(alloc, &[&[], &[], &[]])?;
         sections.push(long)?;
         assert!(rt; sections.len() == 4);
@@ -99,7 +100,7 @@ fn a_blob_has_a_limit(rt: HostRuntime) -> Result<(), Fail> {
         };
         assert_eq!(rt; sealed, expected);
         long = sections.pop().unwrap_or(Vec::new(alloc));
-        long.truncate(BLOB_LIMIT as usize - 68);
+        long.truncate(MOST_BLOB_BYTES as usize - 68);
     }
     Ok(())
 }

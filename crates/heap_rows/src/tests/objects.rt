@@ -14,21 +14,28 @@ use snap_store::Store;
 
 /// Makes a node.
 pub(crate) fn made<S: Store>(store: &mut S, kind: Kind, prototype: &Value) -> Result<u32, Refused>
-    requires value { IsValue (length (S.nodes store.old)) prototype.now }
-    requires prototype { IsPrototype (S.nodes store.old) kind prototype.now }
+    requires value { IsValue (length (S.view store.old).nodes) prototype.now }
+    requires prototype { IsPrototype (S.view store.old).nodes kind prototype.now }
     requires native { (number : ℕ) → kind ≡ Native number → IsNative number }
-    ensures number { IfOk result (λ number. number < length (S.nodes store.new)) }
-    ensures grows { length (S.nodes store.old) ≤ length (S.nodes store.new) }
+    ensures number { IfOk result (λ number. number < length (S.view store.new).nodes) }
+    ensures grows { length (S.view store.old).nodes ≤ length (S.view store.new).nodes }
 {
     let held = store.hold(prototype)?;
     Ok(store.make(kind, &held)?)
 }
 
+/// A node that is there, which is made for it: no node has a greater number.
+pub(crate) fn last_node<S: Store>(store: &mut S) -> Result<u32, Refused>
+    ensures { IfOk result (λ last. last < length (S.view store.new).nodes) }
+{
+    made(store, Kind::Plain, &Value::Null)
+}
+
 /// Whether a node is neither frozen nor an array.
 pub(crate) fn takes_properties<S: Store>(store: &S, node: u32) -> bool
-    requires { node < length (S.nodes store.now) }
-    ensures frozen { result ≡ true → is_frozen (S.nodes store.now) node ≡ false }
-    ensures kind { result ≡ true → kind_of (S.nodes store.now) node ≡ Some Array → ⊥ }
+    requires { node < length (S.view store.now).nodes }
+    ensures frozen { result ≡ true → is_frozen (S.view store.now).nodes node ≡ false }
+    ensures kind { result ≡ true → kind_of (S.view store.now).nodes node ≡ Some Array → ⊥ }
 {
     !store.is_frozen(node) && store.kind(node) != Kind::Array
 }

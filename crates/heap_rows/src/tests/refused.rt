@@ -1,5 +1,6 @@
 //! Why a call of the tests' own gives nothing.
 
+use snap_object::Abrupt;
 use snap_store::StoreFault;
 use std::alloc::{AllocError, AllocFailed};
 
@@ -12,7 +13,7 @@ pub(crate) enum Refused {
     Store(StoreFault),
     /// A row is not written as rows are, or a step of it cannot be taken.
     Row,
-    /// What was thrown is no TypeError.
+    /// An action was cut off, or what was thrown is no TypeError.
     Error,
 }
 
@@ -45,6 +46,15 @@ impl From<StoreFault> for Refused {
         match fault {
             StoreFault::NoMemory => Refused::NoMemory,
             other => Refused::Store(other),
+        }
+    }
+}
+
+impl<H: Drop> From<Abrupt<H>> for Refused {
+    fn from(fault: Abrupt<H>) -> Refused {
+        match fault {
+            Abrupt::NoMemory => Refused::NoMemory,
+            Abrupt::Threw(_) | Abrupt::Stopped(_) => Refused::Error,
         }
     }
 }

@@ -5,6 +5,7 @@ ghost use Rattle.snap_graph.specs.declared.kind.Kind.TheVariants.{Native};
 ghost use Rattle.snap_graph.specs.Intrinsics.{IsNative};
 ghost use Rattle.snap_graph.specs.Values.{IsValue};
 
+mod actions;
 mod logged;
 mod plain;
 mod wide;
@@ -19,8 +20,8 @@ use std::alloc::Global;
 /// Makes a node with no prototype.
 fn made<S: Store>(store: &mut S, kind: Kind) -> Result<u32, Refused>
     requires { (number : ℕ) → kind ≡ Native number → IsNative number }
-    ensures node { IfOk result (λ node. node < length (S.nodes store.new)) }
-    ensures grows { length (S.nodes store.old) ≤ length (S.nodes store.new) }
+    ensures node { IfOk result (λ node. node < length (S.view store.new).nodes) }
+    ensures grows { length (S.view store.old).nodes ≤ length (S.view store.new).nodes }
 {
     objects::made(store, kind, &Value::Null)
 }
@@ -28,8 +29,8 @@ fn made<S: Store>(store: &mut S, kind: Kind) -> Result<u32, Refused>
 /// A number, held.
 fn held_number<S: Store>(store: &mut S, number: u8) -> Result<S::Held, Refused>
     ensures owned { IfOk result (λ held. S.owns store.new held) }
-    ensures value { IfOk result (λ held. IsValue (length (S.nodes store.new)) (S.meaning store.new held)) }
-    ensures nodes { S.nodes store.new ≡ S.nodes store.old }
+    ensures value { IfOk result (λ held. IsValue (length (S.view store.new).nodes) (S.meaning store.new held)) }
+    ensures view { S.view store.new ≡ S.view store.old }
     ensures later { S.later store.old store.new }
 {
     Ok(store.hold(&Value::Int(i64::from(number)))?)
@@ -38,7 +39,7 @@ fn held_number<S: Store>(store: &mut S, number: u8) -> Result<S::Held, Refused>
 /// The key of a text.
 fn key_of<S: Store>(alloc: Global, store: &mut S, units: &[u16]) -> Result<Key, Refused>
     ensures key { IfOk result (λ key. S.key_of store.new units.now ≡ Some key) }
-    ensures nodes { S.nodes store.new ≡ S.nodes store.old }
+    ensures nodes { (S.view store.new).nodes ≡ (S.view store.old).nodes }
     ensures later { S.later store.old store.new }
 {
     let text = Units::of(alloc, units)?;
@@ -53,8 +54,8 @@ fn put<S: Store>(
     units: &[u16],
     number: u8,
 ) -> Result<bool, Refused>
-    requires { node < length (S.nodes store.old) }
-    ensures { length (S.nodes store.new) ≡ length (S.nodes store.old) }
+    requires { node < length (S.view store.old).nodes }
+    ensures { length (S.view store.new).nodes ≡ length (S.view store.old).nodes }
 {
     if !objects::takes_properties(store, node) {
         return Ok(false);
@@ -72,8 +73,8 @@ fn read<S: Store>(
     node: u32,
     units: &[u16],
 ) -> Result<Option<Value>, Refused>
-    requires { node < length (S.nodes store.old) }
-    ensures { length (S.nodes store.new) ≡ length (S.nodes store.old) }
+    requires { node < length (S.view store.old).nodes }
+    ensures { length (S.view store.new).nodes ≡ length (S.view store.old).nodes }
 {
     let key = key_of(alloc, store, units)?;
     match store.own(node, key) {
@@ -89,8 +90,8 @@ fn removed<S: Store>(
     node: u32,
     units: &[u16],
 ) -> Result<bool, Refused>
-    requires { node < length (S.nodes store.old) }
-    ensures { length (S.nodes store.new) ≡ length (S.nodes store.old) }
+    requires { node < length (S.view store.old).nodes }
+    ensures { length (S.view store.new).nodes ≡ length (S.view store.old).nodes }
 {
     if store.is_frozen(node) {
         return Ok(false);
@@ -101,8 +102,8 @@ fn removed<S: Store>(
 
 /// Puts a number behind the elements of an array that is not frozen. Of any other node it says that it does not.
 fn pushed<S: Store>(store: &mut S, node: u32, number: u8) -> Result<bool, Refused>
-    requires { node < length (S.nodes store.old) }
-    ensures { length (S.nodes store.new) ≡ length (S.nodes store.old) }
+    requires { node < length (S.view store.old).nodes }
+    ensures { length (S.view store.new).nodes ≡ length (S.view store.old).nodes }
 {
     if store.is_frozen(node) || store.kind(node) != Kind::Array {
         return Ok(false);
@@ -114,8 +115,8 @@ fn pushed<S: Store>(store: &mut S, node: u32, number: u8) -> Result<bool, Refuse
 
 /// Puts a number behind the elements of an array so many times, and says whether each time it was done.
 fn filled<S: Store>(store: &mut S, node: u32, count: u32) -> Result<bool, Refused>
-    requires { node < length (S.nodes store.old) }
-    ensures { length (S.nodes store.new) ≡ length (S.nodes store.old) }
+    requires { node < length (S.view store.old).nodes }
+    ensures { length (S.view store.new).nodes ≡ length (S.view store.old).nodes }
 {
     for _turn in 0..count {
         if !pushed(store, node, 0)? {
@@ -127,8 +128,8 @@ fn filled<S: Store>(store: &mut S, node: u32, count: u32) -> Result<bool, Refuse
 
 /// Writes an element of an array that is not frozen.
 fn written<S: Store>(store: &mut S, node: u32, i: u32, number: u8) -> Result<bool, Refused>
-    requires { node < length (S.nodes store.old) }
-    ensures { length (S.nodes store.new) ≡ length (S.nodes store.old) }
+    requires { node < length (S.view store.old).nodes }
+    ensures { length (S.view store.new).nodes ≡ length (S.view store.old).nodes }
 {
     if store.is_frozen(node) || store.kind(node) != Kind::Array || i >= store.count(node) {
         return Ok(false);
@@ -140,8 +141,8 @@ fn written<S: Store>(store: &mut S, node: u32, i: u32, number: u8) -> Result<boo
 
 /// Takes the last element of an array that is not frozen.
 fn popped<S: Store>(store: &mut S, node: u32) -> Result<Option<Value>, Refused>
-    requires { node < length (S.nodes store.old) }
-    ensures { length (S.nodes store.new) ≡ length (S.nodes store.old) }
+    requires { node < length (S.view store.old).nodes }
+    ensures { length (S.view store.new).nodes ≡ length (S.view store.old).nodes }
 {
     if store.is_frozen(node) || store.kind(node) != Kind::Array {
         return Ok(None);
@@ -154,7 +155,7 @@ fn popped<S: Store>(store: &mut S, node: u32) -> Result<Option<Value>, Refused>
 
 /// An element.
 fn element<S: Store>(store: &S, node: u32, i: u32) -> Result<Option<Value>, Refused>
-    requires { node < length (S.nodes store.now) }
+    requires { node < length (S.view store.now).nodes }
 {
     if i >= store.count(node) {
         return Ok(None);
@@ -165,7 +166,7 @@ fn element<S: Store>(store: &S, node: u32, i: u32) -> Result<Option<Value>, Refu
 
 /// The prototype of a node.
 fn prototype<S: Store>(store: &S, node: u32) -> Result<Value, Refused>
-    requires { node < length (S.nodes store.now) }
+    requires { node < length (S.view store.now).nodes }
 {
     let held = store.prototype(node);
     Ok(store.value(&held)?)
@@ -173,8 +174,8 @@ fn prototype<S: Store>(store: &S, node: u32) -> Result<Value, Refused>
 
 /// Closes a node that is a resource.
 fn closed<S: Store>(store: &mut S, node: u32)
-    requires { node < length (S.nodes store.old) }
-    ensures { length (S.nodes store.new) ≡ length (S.nodes store.old) }
+    requires { node < length (S.view store.old).nodes }
+    ensures { length (S.view store.new).nodes ≡ length (S.view store.old).nodes }
 {
     if let Kind::Resource { .. } = store.kind(node) {
         store.close(node);
@@ -183,15 +184,15 @@ fn closed<S: Store>(store: &mut S, node: u32)
 
 /// Freezes a node.
 fn frozen<S: Store>(store: &mut S, node: u32)
-    requires { node < length (S.nodes store.old) }
-    ensures { length (S.nodes store.new) ≡ length (S.nodes store.old) }
+    requires { node < length (S.view store.old).nodes }
+    ensures { length (S.view store.new).nodes ≡ length (S.view store.old).nodes }
 {
     store.freeze(node);
 }
 
 /// Whether these are the keys of a node, in order.
 fn has_keys<S: Store>(store: &S, node: u32, order: &[&[u16]]) -> Result<bool, Refused>
-    requires { node < length (S.nodes store.now) }
+    requires { node < length (S.view store.now).nodes }
 {
     let keys = store.own_keys(node)?;
     Ok(are_texts(keys.as_slice(), order))
@@ -239,8 +240,8 @@ fn taken<S: Store>(
     node: u32,
     step: Step,
 ) -> Result<Option<i64>, Refused>
-    requires { node < length (S.nodes store.old) }
-    ensures { length (S.nodes store.new) ≡ length (S.nodes store.old) }
+    requires { node < length (S.view store.old).nodes }
+    ensures { length (S.view store.new).nodes ≡ length (S.view store.old).nodes }
 {
     match step {
         Step::Put(key, value) => Ok(Some(i64::from(put(alloc, store, node, key, value)?))),
@@ -264,8 +265,8 @@ fn played<S: Store>(
     node: u32,
     steps: &[(Step, Option<i64>)],
 ) -> Result<Option<usize>, Refused>
-    requires { node < length (S.nodes store.old) }
-    ensures { length (S.nodes store.new) ≡ length (S.nodes store.old) }
+    requires { node < length (S.view store.old).nodes }
+    ensures { length (S.view store.new).nodes ≡ length (S.view store.old).nodes }
 {
     for (place, step) in steps.iter().enumerate() {
         if taken(alloc, store, node, step.0)? != step.1 {

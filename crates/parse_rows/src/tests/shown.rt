@@ -1,13 +1,14 @@
 //! Trees as text.
 
 use snap_ast::{Binding, ConstBinding, Form, Items, Named, Property, PropertyKey, Tree, TreeNode};
+use snap_text::Units;
 use std::alloc::{AllocError, Global};
 
-/// Bytes as text.
-fn text(alloc: Global, bytes: &Items<u8>) -> Result<String, AllocError> {
+/// Units as characters.
+fn text(alloc: Global, text: &Units) -> Result<String, AllocError> {
     let mut shown = String::new(alloc);
-    for byte in bytes.as_slice() {
-        shown.push(char::from(*byte))?;
+    for unit in text.units() {
+        shown.push(char::from_u32(u32::from(*unit)).unwrap_or('?'))?;
     }
     Ok(shown)
 }
@@ -87,21 +88,12 @@ fn constants(alloc: Global, list: &Items<ConstBinding>) -> Result<String, AllocE
     Ok(shown)
 }
 
-/// Units as characters.
-fn units(alloc: Global, units: &[u16]) -> Result<String, AllocError> {
-    let mut shown = String::new(alloc);
-    for unit in units {
-        shown.push(char::from_u32(u32::from(*unit)).unwrap_or('?'))?;
-    }
-    Ok(shown)
-}
-
 /// A key of a property.
 fn key(alloc: Global, key: &PropertyKey) -> Result<String, AllocError> {
     match key {
         PropertyKey::Word(word) => text(alloc, word),
         PropertyKey::Text(key) => {
-            let key = units(alloc, key.units())?;
+            let key = text(alloc, key)?;
             format!(in alloc; "'{key}'")
         }
         PropertyKey::Number(value) => format!(in alloc; "{value}"),
@@ -335,7 +327,7 @@ fn literal(alloc: Global, form: &Form) -> Result<String, AllocError> {
         }
         Form::Number { value } => format!(in alloc; "Number {value}"),
         Form::Text { units: list } => {
-            let list = units(alloc, list.units())?;
+            let list = text(alloc, list)?;
             format!(in alloc; "Text {list}")
         }
         Form::Bool { value } => format!(in alloc; "Bool {value}"),

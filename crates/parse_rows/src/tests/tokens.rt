@@ -2,6 +2,7 @@
 
 ghost use Rattle.std.specs.Prelude.{◌≡◌, ◌+◌, ◌<◌, ◌≤◌, length, IfOk};
 
+use snap_base::MOST_SOURCE_BYTES;
 use snap_lex::{LexFault, Token, TokenKind, safe_number, text_units, tokens};
 use std::alloc::{AllocError, Global};
 use std::test::Fail;
@@ -35,7 +36,7 @@ fn show(shown: &mut String, token: &Token) -> Result<(), AllocError> {
 
 /// The tokens of a source, or why it has none.
 fn shown(alloc: Global, source: &[u8]) -> Result<String, AllocError>
-    requires { length source.now ≤ 1048576 }
+    requires { length source.now ≤ MOST_SOURCE_BYTES }
 {
     match tokens(alloc, source) {
         Ok(list) => {
@@ -252,9 +253,9 @@ fn every_byte_alone(rt: HostRuntime) -> Result<(), Fail> {
 /// A source as long as one may be: a byte again and again, between two ends.
 fn long(alloc: Global, front: &[u8], byte: u8, end: &[u8]) -> Result<Vec<u8>, AllocError>
     requires { length front.now + length end.now < 100 }
-    ensures { IfOk result (λ source. length source.items ≡ 1048576) }
+    ensures { IfOk result (λ source. length source.items ≡ MOST_SOURCE_BYTES) }
 {
-    let mut source = vec![in alloc; byte; 1_048_576 - front.len() - end.len()]?;
+    let mut source = vec![in alloc; byte; MOST_SOURCE_BYTES as usize - front.len() - end.len()]?;
     source.extend_from_slice(end)?;
     let mut whole = Vec::new(alloc);
     whole.extend_from_slice(front)?;

@@ -11,7 +11,7 @@ use std::test::Fail;
 
 /// Sources, and behind `→` the scopes round the last node that begins at the mark, innermost first, and behind
 /// `;` the scope that it makes. Each row has `¶` at its end.
-const ROWS: &str = "\
+pub(super) const ROWS: &str = "\
 |;→Script 0 ;¶\
 let a, b; |;→Script 2 ;¶\
 |{ let a, b; }→Script 0 ;Block 2 ¶\

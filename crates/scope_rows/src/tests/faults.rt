@@ -99,7 +99,7 @@ try {} catch (e) { let |e, b, b; }→Duplicate¶\
 ";
 
 /// Sources without an early error, each with `¶` at its end.
-const FINE: &str = "\
+pub(super) const FINE: &str = "\
 let a; { let a; }¶\
 let a; function f(a) {}¶\
 for (let i = 0; ; ) { let i; }¶\

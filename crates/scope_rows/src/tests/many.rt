@@ -1,6 +1,6 @@
-//! Many names in one scope, and many scopes round a node.
+//! Many names in one scope, many scopes round a node, and many uses of a name.
 
-ghost use Rattle.std.specs.Prelude.{◌<◌, length};
+ghost use Rattle.std.specs.Prelude.{◌≡◌, ◌<◌, length};
 ghost use Rattle.snap_ast.specs.Lawful.{Lawful};
 
 use super::{node_at, scopes_of, tree_of};
@@ -53,7 +53,7 @@ fn is_at(
 fn slots(alloc: Global, scopes: &Scopes, node: u32) -> Result<u32, AllocError>
     requires { node < length scopes.now.nodes }
 {
-    for slot in 0..10_000u32 {
+    for slot in 0..100_000u32 {
         let place = SlotPlace {
             hops: 0,
             slot,
@@ -63,28 +63,51 @@ fn slots(alloc: Global, scopes: &Scopes, node: u32) -> Result<u32, AllocError>
             return Ok(slot);
         }
     }
-    Ok(10_000)
+    Ok(100_000)
 }
 
-/// How many slots the script of a tree has, and how many of its names are found in them from its first node.
-fn found_in_script(alloc: Global, tree: &Tree) -> Result<Option<(u32, u32)>, AllocError>
+/// How many places from the first on are each the slot of its index.
+fn in_order(places: &[Option<SlotPlace>]) -> usize {
+    for (slot, place) in places.iter().enumerate() {
+        match place {
+            Some(place) => {
+                if place.hops != 0 || place.slot as usize != slot {
+                    return slot;
+                }
+            }
+            None => return slot,
+        }
+    }
+    places.len()
+}
+
+/// How many slots the script of a tree has, how many of its names are found in them from its first node, and how many
+/// names of that node are resolved to them.
+fn found_in_script(alloc: Global, tree: &Tree) -> Result<Option<(u32, u32, usize)>, AllocError>
     requires { Lawful tree.now }
 {
     let Some(node) = node_at(tree, 0) else {
         return Ok(None);
     };
     match scopes_of(alloc, tree)? {
-        Ok(scopes) => Ok(Some((scopes.top().slots, slots(alloc, &scopes, node)?))),
+        Ok(scopes) => {
+            let looked_up = slots(alloc, &scopes, node)?;
+            Ok(Some((
+                scopes.top().slots,
+                looked_up,
+                in_order(scopes.places_of(node)),
+            )))
+        }
         Err(_) => Ok(None),
     }
 }
 
 #[test]
 fn finds_one_name_among_many(rt: HostRuntime) -> Result<(), Fail> {
-    let source = names(rt.alloc(), 10_000)?;
+    let source = names(rt.alloc(), 100_000)?;
     let tree = tree_of(rt.alloc(), source.as_bytes())?.expect(&rt, "a tree");
     let found = found_in_script(rt.alloc(), &tree)?;
-    assert_eq!(rt; found, Some((10_000, 10_000)));
+    assert_eq!(rt; found, Some((100_000, 100_000, 100_000)));
     Ok(())
 }
 
@@ -131,5 +154,63 @@ fn finds_names_through_a_hundred_blocks(rt: HostRuntime) -> Result<(), Fail> {
     let tree = tree_of(rt.alloc(), source.as_bytes())?.expect(&rt, "a tree");
     let found = found_in_blocks(rt.alloc(), &tree, last)?;
     assert_eq!(rt; found, Some((101, 100)));
+    Ok(())
+}
+
+/// `{let n0;{let n1; .. n0;n0; .. }}`, 99 blocks and so many uses in the innermost one.
+fn uses(alloc: Global, count: usize) -> Result<String, AllocError> {
+    let mut source = String::new(alloc);
+    for number in 0..99usize {
+        source.push_str("{let n")?;
+        source.push_str(number.to_string(alloc)?.as_str())?;
+        source.push(';')?;
+    }
+    for _ in 0..count {
+        source.push_str("n0;")?;
+    }
+    for _ in 0..99usize {
+        source.push('}')?;
+    }
+    Ok(source)
+}
+
+/// How many names of a tree are resolved to a place.
+fn resolved(tree: &Tree, scopes: &Scopes, place: SlotPlace) -> u64
+    requires { length scopes.now.nodes ≡ length tree.now.nodes }
+{
+    let mut count: u64 = 0;
+    for (number, _) in tree.nodes.as_slice().iter().enumerate() {
+        if number < u32::MAX as usize {
+            for found in scopes.places_of(number as u32) {
+                if *found == Some(place) {
+                    count = count.saturating_add(1);
+                }
+            }
+        }
+    }
+    count
+}
+
+/// How many uses of `n0` in a tree are resolved to the slot of the outermost of 99 blocks.
+fn resolved_uses(alloc: Global, tree: &Tree) -> Result<Option<u64>, AllocError>
+    requires { Lawful tree.now }
+{
+    let place = SlotPlace {
+        hops: 98,
+        slot: 0,
+        constant: false,
+    };
+    match scopes_of(alloc, tree)? {
+        Ok(scopes) => Ok(Some(resolved(tree, &scopes, place))),
+        Err(_) => Ok(None),
+    }
+}
+
+// A use in the innermost block has 100 nodes round it.
+#[test]
+fn resolves_many_uses_through_many_blocks(rt: HostRuntime) -> Result<(), Fail> {
+    let source = uses(rt.alloc(), 100_000)?;
+    let tree = tree_of(rt.alloc(), source.as_bytes())?.expect(&rt, "a tree");
+    assert_eq!(rt; resolved_uses(rt.alloc(), &tree)?, Some(100_000));
     Ok(())
 }

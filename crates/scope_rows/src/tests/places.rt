@@ -11,7 +11,7 @@ use std::test::Fail;
 
 /// Sources, and behind `→` a name and its place from the last node that begins at the mark: how many scopes lie
 /// between, the slot, and how it was declared. Each row has `¶` at its end.
-const ROWS: &str = "\
+pub(super) const ROWS: &str = "\
 |;→a none¶\
 let a; |a;→a 0 0 let¶\
 let a, b; |b;→b 0 1 let¶\

@@ -9,12 +9,13 @@
 //! - the elements and the length of an array are read of the array alone (`ALONE`).
 
 use super::samples::{PROPERTIES, make_objects};
-use super::steps::{Outcome, step};
+use super::steps::{By, Outcome, step};
 use crate::tests::refused::Refused;
+use crate::tests::told_keys::ToldKeys;
 use crate::tests::values::is_value_of;
 use snap_base::Stop;
 use snap_store::{PlainStore, Store};
-use snap_text::{NoMemory, OwnKeys, Units};
+use snap_text::{NoMemory, Units};
 use std::alloc::Global;
 use std::test::Fail;
 
@@ -340,10 +341,11 @@ fn comes_to<S: Store>(
     alloc: Global,
     store: &mut S,
     one: &str,
+    by: By,
     answer: &str,
 ) -> Result<bool, Refused> {
     let words = words_of(alloc, one)?;
-    let outcome = step(alloc, store, words.as_slice())?;
+    let outcome = step(alloc, store, words.as_slice(), by)?;
     is_outcome(alloc, &outcome, answer)
 }
 
@@ -351,7 +353,7 @@ fn comes_to<S: Store>(
 fn fill<S: Store>(alloc: Global, store: &mut S) -> Result<(), Refused> {
     make_objects(alloc, store)?;
     for one in PROPERTIES.lines() {
-        if !comes_to(alloc, store, one, "ok")? {
+        if !comes_to(alloc, store, one, By::Value, "ok")? {
             return Err(Refused::Row);
         }
     }
@@ -363,23 +365,56 @@ fn is_right<S: Store>(
     alloc: Global,
     store: &mut S,
     steps: &str,
+    by: By,
     answer: &str,
 ) -> Result<bool, Refused> {
     let mut right = false;
     for one in steps.split("; ") {
-        right = comes_to(alloc, store, one, answer)?;
+        right = comes_to(alloc, store, one, by, answer)?;
     }
     Ok(right)
 }
 
-// Whether a row is right, over new objects.
+// The keys after these steps over new objects, where the last one comes to the answer.
+fn keys_after(
+    alloc: Global,
+    steps: &str,
+    by: By,
+    answer: &str,
+) -> Result<Option<ToldKeys>, Refused> {
+    let mut store = PlainStore::new(alloc, ToldKeys::new(alloc))?;
+    fill(alloc, &mut store)?;
+    if is_right(alloc, &mut store, steps, by, answer)? {
+        Ok(Some(store.into_keys()))
+    } else {
+        Ok(None)
+    }
+}
+
+// Whether these are the same texts.
+fn are_same(texts: &[Units], others: &[Units]) -> bool {
+    if texts.len() != others.len() {
+        return false;
+    }
+    for (text, other) in texts.iter().zip(others) {
+        if text.units() != other.units() {
+            return false;
+        }
+    }
+    true
+}
+
+// Whether a row is right, both by the values of keys and by their names, and both ask for the same texts.
 fn is_answered(alloc: Global, row: &str) -> Result<bool, Refused> {
     let Some((steps, answer)) = row.split_once(" = ") else {
         return Err(Refused::Row);
     };
-    let mut store = PlainStore::new(alloc, OwnKeys::new(alloc))?;
-    fill(alloc, &mut store)?;
-    is_right(alloc, &mut store, steps, answer)
+    let by_value = keys_after(alloc, steps, By::Value, answer)?;
+    let by_name = keys_after(alloc, steps, By::Name, answer)?;
+    match (by_value, by_name) {
+        (Some(keys), Some(others)) => Ok(are_same(keys.log(), others.log())),
+        _ => Ok(false),
+    }
 }
 
 // The first row of a table that is not right.

@@ -51,13 +51,6 @@ set #71 'k' 8
 set #72 'a' true
 ";
 
-/// A node that is there, which is made for it: no node has a greater number.
-pub(crate) fn last_node<S: Store>(store: &mut S) -> Result<u32, Refused>
-    ensures { IfOk result (λ last. last < length (S.nodes store.new)) }
-{
-    made(store, Kind::Plain, &Value::Null)
-}
-
 /// Makes the nodes from number 62 on, with nothing on them.
 pub(crate) fn make_objects<S: Store>(alloc: Global, store: &mut S) -> Result<(), Refused> {
     let mut last = 7;
@@ -69,8 +62,8 @@ pub(crate) fn make_objects<S: Store>(alloc: Global, store: &mut S) -> Result<(),
 
 // Makes the node of a row.
 fn object<S: Store>(alloc: Global, store: &mut S, last: u32, row: &str) -> Result<u32, Refused>
-    requires { last < length (S.nodes store.old) }
-    ensures { IfOk result (λ number. number < length (S.nodes store.new)) }
+    requires { last < length (S.view store.old).nodes }
+    ensures { IfOk result (λ number. number < length (S.view store.new).nodes) }
 {
     let Some((kind, word)) = row.split_once(' ') else {
         return Err(Refused::Row);
@@ -98,8 +91,8 @@ fn kind_of(word: &str) -> Kind
 
 // Whether a value may be a prototype of what is no scope.
 fn may_be_prototype<S: Store>(store: &S, last: u32, value: &Value) -> bool
-    requires { last < length (S.nodes store.now) }
-    ensures { (kind : Kind) → is_scope kind ≡ false → result ≡ true → IsPrototype (S.nodes store.now) kind value.now }
+    requires { last < length (S.view store.now).nodes }
+    ensures { (kind : Kind) → is_scope kind ≡ false → result ≡ true → IsPrototype (S.view store.now).nodes kind value.now }
 {
     match value {
         Value::Null => true,
@@ -110,8 +103,8 @@ fn may_be_prototype<S: Store>(store: &S, last: u32, value: &Value) -> bool
 
 // Whether a node is a plain object or an array.
 fn is_object<S: Store>(store: &S, node: u32) -> bool
-    requires { node < length (S.nodes store.now) }
-    ensures { (kind : Kind) → is_scope kind ≡ false → result ≡ true → IsPrototype (S.nodes store.now) kind (At node) }
+    requires { node < length (S.view store.now).nodes }
+    ensures { (kind : Kind) → is_scope kind ≡ false → result ≡ true → IsPrototype (S.view store.now).nodes kind (At node) }
 {
     match store.kind(node) {
         Kind::Plain | Kind::Array => true,

@@ -1,18 +1,17 @@
 //! Single steps, and what they come to.
 
-ghost use Rattle.std.specs.Prelude.{◌<◌, Err, length};
+ghost use Rattle.std.specs.Prelude.{◌<◌, length};
+ghost use Rattle.snap_action.specs.Gives.{OwnsCut, cut_of};
 ghost use Rattle.snap_graph.specs.Values.{IsValue};
-ghost use Rattle.snap_object.specs.Gives.{Owns};
 
-use super::samples::last_node;
-use crate::tests::objects::takes_properties;
+use crate::tests::objects::{last_node, takes_properties};
 use crate::tests::refused::Refused;
 use crate::tests::values::value_of;
 use snap_base::Stop;
 use snap_graph::Value;
-use snap_object::{Abrupt, delete, get, set};
+use snap_object::{Abrupt, Name, delete, delete_by_name, get, get_by_name, set, set_by_name};
 use snap_store::Store;
-use snap_text::Units;
+use snap_text::{StrView, Units, decimal};
 use std::alloc::Global;
 
 /// What a step came to.
@@ -32,23 +31,53 @@ pub(crate) enum Outcome {
     Stopped(Stop),
 }
 
+/// How the key of an access is given.
+#[derive(Clone, Copy)]
+pub(crate) enum By {
+    /// As the value that it is.
+    Value,
+    /// As the name of its text, where it has one.
+    Name,
+}
+
 /// Takes one step: a verb and its words. Want of memory is none of what it may come to.
 pub(crate) fn step<S: Store>(
     alloc: Global,
     store: &mut S,
     words: &[&str],
+    by: By,
 ) -> Result<Outcome, Refused> {
     let last = last_node(store)?;
     let base = value_of(alloc, last, word(words, 1))?;
     let key = value_of(alloc, last, word(words, 2))?;
     let value = value_of(alloc, last, word(words, 3))?;
     match word(words, 0) {
-        "get" => read(alloc, store, &base, &key),
-        "set" => written(alloc, store, &base, &key, &value),
-        "delete" => deleted(alloc, store, &base, &key),
         "put" => put(store, last, &base, &key, &value),
         "freeze" => frozen(store, last, &base),
         "keys" => keys(store, last, &base),
+        verb => match (by, text_of(alloc, &key)?) {
+            (By::Name, Some(text)) => named(alloc, store, verb, &base, text, &value),
+            _ => valued(alloc, store, verb, &base, &key, &value),
+        },
+    }
+}
+
+// Takes a step by the value that a key is.
+fn valued<S: Store>(
+    alloc: Global,
+    store: &mut S,
+    verb: &str,
+    base: &Value,
+    key: &Value,
+    value: &Value,
+) -> Result<Outcome, Refused>
+    requires base { IsValue (length (S.view store.old).nodes) base.now }
+    requires value { IsValue (length (S.view store.old).nodes) value.now }
+{
+    match verb {
+        "get" => read(alloc, store, base, key),
+        "set" => written(alloc, store, base, key, value),
+        "delete" => deleted(alloc, store, base, key),
         _ => Err(Refused::Row),
     }
 }
@@ -61,6 +90,94 @@ fn word<'a>(words: &[&'a str], i: usize) -> &'a str {
     }
 }
 
+// The text that a key is (ECMA-262, 7.1.17, ToString). A node has none in this profile.
+fn text_of(alloc: Global, key: &Value) -> Result<Option<Units>, Refused> {
+    let text = match key {
+        Value::Text(text) => Units::of(alloc, text.units())?,
+        Value::Undefined => StrView::One(b"undefined").copy(alloc)?,
+        Value::Null => StrView::One(b"null").copy(alloc)?,
+        Value::Bool(true) => StrView::One(b"true").copy(alloc)?,
+        Value::Bool(false) => StrView::One(b"false").copy(alloc)?,
+        Value::Int(number) => decimal(alloc, *number)?,
+        Value::Node(_) | Value::Empty => return Ok(None),
+    };
+    Ok(Some(text))
+}
+
+// Takes a step by the name of a text.
+fn named<S: Store>(
+    alloc: Global,
+    store: &mut S,
+    verb: &str,
+    base: &Value,
+    text: Units,
+    value: &Value,
+) -> Result<Outcome, Refused>
+    requires base { IsValue (length (S.view store.old).nodes) base.now }
+    requires value { IsValue (length (S.view store.old).nodes) value.now }
+{
+    match verb {
+        "get" => read_by_name(alloc, store, base, text),
+        "set" => written_by_name(alloc, store, base, text, value),
+        "delete" => deleted_by_name(alloc, store, base, text),
+        _ => Err(Refused::Row),
+    }
+}
+
+// Reads a property by a name.
+fn read_by_name<S: Store>(
+    alloc: Global,
+    store: &mut S,
+    base: &Value,
+    text: Units,
+) -> Result<Outcome, Refused>
+    requires { IsValue (length (S.view store.old).nodes) base.now }
+{
+    let base = store.hold(base)?;
+    let mut name = Name::new(text);
+    match get_by_name(alloc, store, &base, &mut name) {
+        Ok(held) => Ok(Outcome::Read(store.value(&held)?)),
+        Err(fault) => abrupt(store, fault),
+    }
+}
+
+// Writes a property by a name.
+fn written_by_name<S: Store>(
+    alloc: Global,
+    store: &mut S,
+    base: &Value,
+    text: Units,
+    value: &Value,
+) -> Result<Outcome, Refused>
+    requires base { IsValue (length (S.view store.old).nodes) base.now }
+    requires value { IsValue (length (S.view store.old).nodes) value.now }
+{
+    let base = store.hold(base)?;
+    let held = store.hold(value)?;
+    let mut name = Name::new(text);
+    match set_by_name(alloc, store, &base, &mut name, &held) {
+        Ok(()) => Ok(Outcome::Wrote),
+        Err(fault) => abrupt(store, fault),
+    }
+}
+
+// Deletes a property by a name.
+fn deleted_by_name<S: Store>(
+    alloc: Global,
+    store: &mut S,
+    base: &Value,
+    text: Units,
+) -> Result<Outcome, Refused>
+    requires { IsValue (length (S.view store.old).nodes) base.now }
+{
+    let base = store.hold(base)?;
+    let mut name = Name::new(text);
+    match delete_by_name(alloc, store, &base, &mut name) {
+        Ok(answer) => Ok(Outcome::Deleted(answer)),
+        Err(fault) => abrupt(store, fault),
+    }
+}
+
 // Reads a property.
 fn read<S: Store>(
     alloc: Global,
@@ -68,7 +185,7 @@ fn read<S: Store>(
     base: &Value,
     key: &Value,
 ) -> Result<Outcome, Refused>
-    requires { IsValue (length (S.nodes store.old)) base.now }
+    requires { IsValue (length (S.view store.old).nodes) base.now }
 {
     let base = store.hold(base)?;
     match get(alloc, store, &base, key) {
@@ -85,9 +202,8 @@ fn written<S: Store>(
     key: &Value,
     value: &Value,
 ) -> Result<Outcome, Refused>
-    requires base { IsValue (length (S.nodes store.old)) base.now }
-    requires key { IsValue (length (S.nodes store.old)) key.now }
-    requires value { IsValue (length (S.nodes store.old)) value.now }
+    requires base { IsValue (length (S.view store.old).nodes) base.now }
+    requires value { IsValue (length (S.view store.old).nodes) value.now }
 {
     let base = store.hold(base)?;
     let held = store.hold(value)?;
@@ -104,7 +220,7 @@ fn deleted<S: Store>(
     base: &Value,
     key: &Value,
 ) -> Result<Outcome, Refused>
-    requires { IsValue (length (S.nodes store.old)) base.now }
+    requires { IsValue (length (S.view store.old).nodes) base.now }
 {
     let base = store.hold(base)?;
     match delete(alloc, store, &base, key) {
@@ -121,8 +237,8 @@ fn put<S: Store>(
     key: &Value,
     value: &Value,
 ) -> Result<Outcome, Refused>
-    requires last { last < length (S.nodes store.old) }
-    requires value { IsValue (length (S.nodes store.old)) value.now }
+    requires last { last < length (S.view store.old).nodes }
+    requires value { IsValue (length (S.view store.old).nodes) value.now }
 {
     let Value::Node(node) = base else {
         return Err(Refused::Row);
@@ -141,7 +257,7 @@ fn put<S: Store>(
 
 // Freezes a node.
 fn frozen<S: Store>(store: &mut S, last: u32, base: &Value) -> Result<Outcome, Refused>
-    requires { last < length (S.nodes store.old) }
+    requires { last < length (S.view store.old).nodes }
 {
     match base {
         Value::Node(node) => {
@@ -157,7 +273,7 @@ fn frozen<S: Store>(store: &mut S, last: u32, base: &Value) -> Result<Outcome, R
 
 // The texts of a node's own keys.
 fn keys<S: Store>(store: &S, last: u32, base: &Value) -> Result<Outcome, Refused>
-    requires { last < length (S.nodes store.now) }
+    requires { last < length (S.view store.now).nodes }
 {
     match base {
         Value::Node(node) => {
@@ -172,7 +288,7 @@ fn keys<S: Store>(store: &S, last: u32, base: &Value) -> Result<Outcome, Refused
 
 // Why there is no result.
 fn abrupt<S: Store>(store: &mut S, fault: Abrupt<S::Held>) -> Result<Outcome, Refused>
-    requires { Owns {R = Unit {0}} (λ done. Unit {0}) (S.owns store.old) (Err fault) }
+    requires { OwnsCut (S.owns store.old) (cut_of fault) }
 {
     match fault {
         Abrupt::Threw(error) => thrown(store, &error),
@@ -195,7 +311,7 @@ fn thrown<S: Store>(store: &mut S, error: &S::Held) -> Result<Outcome, Refused>
 
 // A node, if it is a TypeError.
 fn type_error<S: Store>(store: &S, last: u32, node: u32) -> Result<Outcome, Refused>
-    requires { last < length (S.nodes store.now) }
+    requires { last < length (S.view store.now).nodes }
 {
     if node > last {
         return Err(Refused::Row);

@@ -58,7 +58,7 @@ fn wide(alloc: Global, count: u32) -> Result<Graph, Refused>
 
 /// A store of them, of whose nodes one is private.
 fn wide_store(alloc: Global, count: u32) -> Result<PlainStore<OwnKeys>, Refused>
-    ensures { IfOk result (λ store. length (⟦<PlainStore<OwnKeys> as Store>⟧.nodes store) ≡ 63) }
+    ensures { IfOk result (λ store. length (⟦<PlainStore<OwnKeys> as Store>⟧.view store).nodes ≡ 63) }
 {
     let graph = wide(alloc, count)?;
     match PlainStore::of(alloc, OwnKeys::new(alloc), graph, 1) {

@@ -1,6 +1,7 @@
 use Rattle.std.proofs.Common.{◌≤◌, [], arith, ap, ◌∙◌}
 use Rattle.std.specs.List.{list_any}
 use Rattle.std.specs.Str.{bytes_eq}
+use Rattle.snap_base.specs.declared.limits.TheConstants.{MOST_ITEMS}
 use Rattle.snap_commands.specs.Strings.{mass}
 use Rattle.snap_commands.proofs.Sorted.{all_taken, are_strings, text_more}
 use Rattle.snap_commands.proofs.strings.strings.Goals as goal
@@ -14,7 +15,7 @@ loop-text-preserved c =
 -- src/strings.rt:16:1
 pub returns-clause-lawful : goal.returns-clause-lawful
 returns-clause-lawful c =
-    let light : mass c.in_ok-list.list.items ≤ 16777216 = omega (arith, ap mass c.in_ok-list.ensures.same, c.loop-text.invariant.light, ap mass (all_taken c.args.texts.now c.loop-text.text-index c.loop-text-test.false), c.requires) in
+    let light : mass c.in_ok-list.list.items ≤ MOST_ITEMS = omega (arith, ap mass c.in_ok-list.ensures.same, c.loop-text.invariant.light, ap mass (all_taken c.args.texts.now c.loop-text.text-index c.loop-text-test.false), c.requires) in
     are_strings c.in_ok-list.list.items light c.in_ok-list.ensures.bytes c.in_ok-list.ensures.ascending
 
 -- src/strings.rt:16:1

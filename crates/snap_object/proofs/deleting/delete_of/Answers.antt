@@ -1,20 +1,24 @@
 use Rattle.std.proofs.Common.{codes, refl, sym, ⊎_elim}
 use Rattle.snap_base.specs.declared.stop.Stop.TheVariants.{NotInProfile}
-use Rattle.spec_values.specs.Access.{delete, index_of}
-use Rattle.snap_object.proofs.Follows.{at_same, stopped}
+use Rattle.snap_graph.specs.declared.intrinsic.TheConstants.{TYPE_ERROR_PROTOTYPE}
+use Rattle.snap_graph.specs.declared.value.Value.TheVariants.{Text}
+use Rattle.snap_graph.specs.OwnKeys.{array_index}
+use Rattle.spec_values.specs.Access.{delete}
+use Rattle.snap_action.proofs.Follows.{at_same, stopped}
+use Rattle.snap_action.proofs.Throwing.{threw}
 use Rattle.snap_object.proofs.Removing.{text_outside}
-use Rattle.snap_object.proofs.Throwing.{threw}
 use Rattle.snap_object.proofs.deleting.delete_of.Goals as goal
-
-pub returns-in-Empty-clause-gives : goal.returns-in-Empty-clause-gives
-returns-in-Empty-clause-gives g c = at_same (λ base. delete base c.args.key.now) (sym c.in-Empty.is) (stopped NotInProfile (record { nodes = refl; private_nodes = refl; log = refl }))
-
-pub returns-in-Text-clause-gives : goal.returns-in-Text-clause-gives
-returns-in-Text-clause-gives g c = at_same (λ base. delete base c.args.key.now) (sym c.in-Text.is) (text_outside (index_of c.args.key.now) c.args.key.now c.delete_of_text.ensures.gives)
 
 pub returns-in-Undefined-clause-gives : goal.returns-in-Undefined-clause-gives
 returns-in-Undefined-clause-gives g c =
     ⊎_elim
-    (λ e. at_same (λ base. delete base c.args.key.now) (sym e) (threw (codes "no properties") c.type_error.ensures.gives))
-    (λ e. at_same (λ base. delete base c.args.key.now) (sym e) (threw (codes "no properties") c.type_error.ensures.gives))
+    (λ e. at_same (λ base. delete base (Text c.args.name.now.text)) (sym e) (threw TYPE_ERROR_PROTOTYPE (codes "no properties") c.type_error.ensures))
+    (λ e. at_same (λ base. delete base (Text c.args.name.now.text)) (sym e) (threw TYPE_ERROR_PROTOTYPE (codes "no properties") c.type_error.ensures))
     c.in-Undefined.is
+
+pub returns-in-Text-clause-gives : goal.returns-in-Text-clause-gives
+returns-in-Text-clause-gives g c =
+    at_same (λ base. delete base (Text c.args.name.now.text)) (sym c.in-Text.is) (text_outside (array_index c.args.name.now.text) (Text c.args.name.now.text) c.delete_of_text.ensures.gives)
+
+pub returns-in-Empty-clause-gives : goal.returns-in-Empty-clause-gives
+returns-in-Empty-clause-gives g c = at_same (λ base. delete base (Text c.args.name.now.text)) (sym c.in-Empty.is) (stopped (record { view = refl; later = g.met.S.Store.at_once c.args.store.now }) NotInProfile)

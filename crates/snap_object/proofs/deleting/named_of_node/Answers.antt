@@ -1,12 +1,15 @@
+use Rattle.std.proofs.Common.{◌∙◌}
+use Rattle.snap_graph.specs.declared.value.Value.TheVariants.{Text}
 use Rattle.spec_values.specs.Access.{delete_named, named_key}
-use Rattle.snap_object.proofs.Follows.{chained, cut_off}
-use Rattle.snap_object.proofs.Removing.{delete_named_grows}
+use Rattle.snap_action.proofs.Follows.{at_same, chained, cut_off}
+use Rattle.snap_object.proofs.Growing.{delete_named_grows}
 use Rattle.snap_object.proofs.deleting.named_of_node.Goals as goal
 
-pub returns-in_err-name-clause-gives : goal.returns-in_err-name-clause-gives
-returns-in_err-name-clause-gives g c =
-    cut_off (named_key c.args.key.now) (delete_named c.args.node) (delete_named_grows c.args.node) c.in_err-name.ensures.gives c.from_residual.result c.from_residual.ensures.1
+pub returns-in_err-key-clause-gives : goal.returns-in_err-key-clause-gives
+returns-in_err-key-clause-gives g c =
+    cut_off (named_key (Text c.args.name.now.text)) (delete_named c.args.node) (delete_named_grows c.args.node) c.in_err-key.ensures.gives c.from_residual.result c.from_residual.ensures.1
 
 pub returns-clause-gives : goal.returns-clause-gives
 returns-clause-gives g c =
-    chained (named_key c.args.key.now) (delete_named c.args.node) (λ text. g.met.S.Store.keeps_left_out c.args.store.now c.named_key.new.store text c.in_ok-name.ensures.later) c.in_ok-name.ensures.gives c.delete_named.ensures.gives
+    chained g.met.S.Store.later_still (λ a b text h. g.met.S.Store.keeps_left_out a b text h) (named_key (Text c.args.name.now.text)) (delete_named c.args.node) c.in_ok-key.ensures.gives
+    (at_same (delete_named c.args.node) (c.text.ensures ∙ c.in_ok-key.ensures.kept.text) c.delete_named.ensures)

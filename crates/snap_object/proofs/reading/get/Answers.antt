@@ -1,12 +1,11 @@
 use Rattle.std.proofs.Common.{refl}
 use Rattle.spec_values.specs.Access.{get}
-use Rattle.snap_object.proofs.Follows.{at_same, unmet}
+use Rattle.snap_action.proofs.Follows.{at_same, unmet}
 use Rattle.snap_object.proofs.Growing.{get_grows}
 use Rattle.snap_object.proofs.reading.get.Goals as goal
 
-pub returns-in_err-base-clause-gives : goal.returns-in_err-base-clause-gives
-returns-in_err-base-clause-gives g c =
-    unmet (record { nodes = refl; private_nodes = refl; log = refl }) (get_grows (g.S.Store.meaning c.args.store.now c.args.base.now) c.args.key.now) c.from_residual.result c.from_residual.ensures.1
+pub returns-in_err-base : goal.returns-in_err-base
+returns-in_err-base g c = unmet (record { view = refl; later = g.met.S.Store.at_once c.args.store.now }) (get_grows (g.S.Store.meaning c.args.store.now c.args.base.now) c.args.key.now) c.from_residual.result c.from_residual.ensures.1
 
-pub returns-clause-gives : goal.returns-clause-gives
-returns-clause-gives g c = at_same (λ base. get base c.args.key.now) c.in_ok-base.ensures c.get_of.ensures.gives
+pub returns-in-Some : goal.returns-in-Some
+returns-in-Some g c = at_same (λ base. get base c.args.key.now) c.in_ok-base.ensures c.get_at.ensures

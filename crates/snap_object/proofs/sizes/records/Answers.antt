@@ -11,7 +11,7 @@ use Rattle.snap_object.proofs.sizes.records.Goals as goal
 pub loop-i-preserved : goal.loop-i-preserved
 loop-i-preserved g c =
     let h = c.in_ok-is_there.ensures in
-    let elements = elements_of (g.S.Store.nodes c.args.store.now) c.args.node in
+    let elements = elements_of (g.S.Store.view c.args.store.now).nodes c.args.node in
     let keys = record_keys elements in
     let within : 2 * c.loop-i.i + 1 < length elements = omega (arith, c.loop-i-test.true, c.count-i-end.ensures) in
     let at = record_at elements c.loop-i.i h.0 within h.1 in
@@ -22,6 +22,6 @@ loop-i-preserved g c =
 
 pub returns : goal.returns
 returns g c =
-    let keys = record_keys (elements_of (g.S.Store.nodes c.args.store.now) c.args.node) in
-    let all : length keys ≤ c.loop-i.i = omega (arith, record_count (elements_of (g.S.Store.nodes c.args.store.now) c.args.node), c.count-i-end.ensures, c.loop-i-test.false) in
+    let keys = record_keys (elements_of (g.S.Store.view c.args.store.now).nodes c.args.node) in
+    let all : length keys ≤ c.loop-i.i = omega (arith, record_count (elements_of (g.S.Store.view c.args.store.now).nodes c.args.node), c.count-i-end.ensures, c.loop-i-test.false) in
     c.loop-i.invariant.counted ∙ ap (λ (values : List Value). count_by is_there values) (take_all c.loop-i.i keys all)

@@ -6,6 +6,6 @@ use Rattle.snap_object.proofs.sizes.records.Given as goal
 
 abbrev pub invariant-loop-i : goal.invariant-loop-i
 invariant-loop-i g l = record {
-  counted : l.count ≡ count_by is_there (take l.i (record_keys (elements_of (g.S.Store.nodes l.store) l.node)));
+  counted : l.count ≡ count_by is_there (take l.i (record_keys (elements_of (g.S.Store.view l.store).nodes l.node)));
   few : l.count ≤ l.i;
 }

@@ -10,12 +10,12 @@ visit_all-requires-clause-start c =
 
 pub of-requires-clause-entries : goal.of-requires-clause-entries
 of-requires-clause-entries c =
-    entries_right c.args.tree.now c.requires.lawful c.visit_all.new.pass.chains c.visit_all.new.pass.contexts.items c.visit_all.new.pass.entries.items c.in-Ok-visit_all.ensures.ok
+    entries_right c.args.tree.now c.requires.lawful c.visit_all.new.pass.chains c.visit_all.new.pass.contexts.items c.visit_all.new.pass.entries.items c.visit_all.new.pass.places.items c.in-Ok-visit_all.ensures.ok
 
 pub returns-in-Ok-visit_all-clause-scopes : goal.returns-in-Ok-visit_all-clause-scopes
 returns-in-Ok-visit_all-clause-scopes c =
-    scopes_right c.args.tree.now c.requires.lawful c.visit_all.new.pass.chains c.visit_all.new.pass.contexts.items c.visit_all.new.pass.entries.items c.in-Ok-visit_all.ensures.ok c.of.result c.of.ensures
+    scopes_right c.args.tree.now c.requires.lawful c.visit_all.new.pass.chains c.visit_all.new.pass.contexts.items c.visit_all.new.pass.entries.items c.visit_all.new.pass.places.items c.in-Ok-visit_all.ensures.ok c.of.result c.of.ensures
 
 pub returns-in-Ok-visit_all-clause-none : goal.returns-in-Ok-visit_all-clause-none
 returns-in-Ok-visit_all-clause-none c =
-    none_left c.args.tree.now c.visit_all.new.pass.chains c.visit_all.new.pass.contexts.items c.visit_all.new.pass.entries.items c.in-Ok-visit_all.ensures.ok
+    none_left c.args.tree.now c.visit_all.new.pass.chains c.visit_all.new.pass.contexts.items c.visit_all.new.pass.entries.items c.visit_all.new.pass.places.items c.in-Ok-visit_all.ensures.ok

@@ -2,8 +2,10 @@ use Rattle.std.proofs.Common.{◌≡◌, List, OnOk, subst, sym, ◌∙◌}
 use Rattle.std.specs.Prelude.{None, Some, IfErr}
 use Rattle.snap_ast.specs.declared.tree.TreeNode.{TreeNode}
 use Rattle.snap_scope.proofs.Errors.{err_by, names_last, told_by}
+use Rattle.snap_scope.proofs.NarrowNames.{have_words}
 use Rattle.snap_scope.proofs.Next.{on_ok_by}
 use Rattle.snap_scope.specs.Faults.{IsTold, IsToldAt}
+use Rattle.snap_scope.specs.Names.{HaveWords}
 use Rattle.snap_scope.specs.Visit.{IsCleanAt}
 use Rattle.spec_scopes.specs.Scopes.{names_apart}
 use Rattle.spec_scopes.specs.Told.{bad_target, first_repeat, node_error}
@@ -28,3 +30,6 @@ returns-else-is_stray-clause-err c =
     err_by {A = IsTold (first_repeat (names_apart tree.nodes node.form))} {B = IsToldAt tree node c.args.context} c.own_slots.result
     (λ fault h. λ steps loop function. told_by (first_repeat (names_apart tree.nodes node.form)) (node_error tree node steps) fault
     (λ same e. names_last tree node steps good (sym (c.is_stray.ensures steps loop function) ∙ c.if-is_stray.false) (Some same) e) h) names
+
+pub own_slots-requires-clause-nodes : goal.own_slots-requires-clause-nodes
+own_slots-requires-clause-nodes c = subst HaveWords (sym c.as_slice-in-Ok.ensures) (have_words c.args.tree.now c.requires.lawful)

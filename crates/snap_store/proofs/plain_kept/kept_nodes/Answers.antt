@@ -1,3 +1,6 @@
+use Rattle.std.proofs.Common.{subst, sym}
+use Rattle.std.proofs.lemmas.List.Elements.{All-push}
+use Rattle.snap_store.specs.Keyed.{AreNodesKeyed, IsNodeKeyed}
 use Rattle.snap_store.specs.Following.{begins_still}
 use Rattle.snap_store.proofs.Keeping.{nodes_step}
 use Rattle.snap_store.proofs.plain_kept.kept_nodes.Goals as goal
@@ -9,4 +12,5 @@ loop-node-preserved c =
       begins_still c.args.texts.now.items before after c.loop-node.invariant.0 c.kept_node.ensures.texts,
       nodes_step before after c.loop-node.kept.items c.push.new.self.items c.loop-node.yielded c.in_ok-kept_node.field-0 c.in-Some.node
           c.loop-node.invariant.1 c.kept_node.ensures.texts c.in_ok-kept_node.ensures.kept c.in_ok-push.ensures.items,
+      λ key_of. subst (AreNodesKeyed key_of) (sym c.in_ok-push.ensures.items) (All-push (IsNodeKeyed key_of) c.loop-node.kept.items c.in_ok-kept_node.field-0 (c.loop-node.invariant.2 key_of) (c.in_ok-kept_node.ensures.keyed key_of)),
     )

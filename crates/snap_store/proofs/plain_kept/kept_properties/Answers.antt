@@ -1,5 +1,7 @@
-use Rattle.std.proofs.Common.{ap}
+use Rattle.std.proofs.Common.{All, None, ap, subst, sym}
+use Rattle.std.proofs.lemmas.List.Elements.{All-push}
 use Rattle.snap_graph.specs.declared.value.Value.{Value}
+use Rattle.snap_store.specs.Keyed.{IsKeyed}
 use Rattle.snap_store.specs.Following.{begins_still}
 use Rattle.snap_store.proofs.Keeping.{properties_step}
 use Rattle.snap_store.proofs.plain_kept.kept_properties.Goals as goal
@@ -11,6 +13,7 @@ loop-property-preserved c =
     let key = c.in-Some.property.key in
     let kept = c.in_ok-value.ensures.kept in (
       begins_still c.args.texts.now.items before after c.loop-property.invariant.0 c.kept_value.ensures.texts,
-      properties_step before after c.loop-property.kept.items c.push.new.self.items c.loop-property.yielded (record { key = key; value = c.in_ok-value.value }) c.in-Some.property
+      properties_step before after c.loop-property.kept.items c.push.new.self.items c.loop-property.yielded (record { key = key; known = None; value = c.in_ok-value.value }) c.in-Some.property
           c.loop-property.invariant.1 c.kept_value.ensures.texts (kept.0, ap (λ (v : Value). record { key = key; value = v }) kept.1) c.in_ok-push.ensures.items,
+      λ key_of. subst (All (IsKeyed key_of)) (sym c.in_ok-push.ensures.items) (All-push (IsKeyed key_of) c.loop-property.kept.items (record { key = key; known = None; value = c.in_ok-value.value }) (c.loop-property.invariant.2 key_of) (λ one e. absurd cc)),
     )

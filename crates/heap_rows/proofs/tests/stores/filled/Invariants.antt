@@ -3,4 +3,4 @@ use Rattle.heap_rows.proofs.tests.stores.filled.Given as goal
 
 -- there are as many nodes as before
 abbrev pub invariant-loop-turn : goal.invariant-loop-turn
-invariant-loop-turn g l = length (g.S.Store.nodes l.store) ≡ length (g.S.Store.nodes l.initial.store)
+invariant-loop-turn g l = length (g.S.Store.view l.store).nodes ≡ length (g.S.Store.view l.initial.store).nodes

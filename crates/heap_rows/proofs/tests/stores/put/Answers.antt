@@ -1,6 +1,7 @@
 use Rattle.std.proofs.Common.{List, length, ap, sym, ◌∙◌}
 use Rattle.snap_graph.specs.declared.node.Node.{Node}
 use Rattle.spec_values.specs.Access.{kind_of}
+use Rattle.snap_store.specs.View.{View}
 use Rattle.spec_values.proofs.Changes.{length-changed}
 use Rattle.heap_rows.proofs.tests.stores.put.Goals as goal
 
@@ -9,8 +10,8 @@ put_own-requires-clause-key g c = g.met.S.Store.keeps_known _ _ _ c.held_number.
 
 pub put_own-requires-clause-element : goal.put_own-requires-clause-element
 put_own-requires-clause-element g c = λ is text known element.
-    let same = c.held_number.ensures.nodes ∙ c.key_of.ensures.nodes in
+    let same = ap (λ (view : View). view.nodes) c.held_number.ensures.view ∙ c.key_of.ensures.nodes in
     c.takes_properties.ensures.kind c.if-not-takes_properties.false (sym (ap (λ (nodes : List Node). kind_of nodes c.args.node) same) ∙ is)
 
 pub returns : goal.returns
-returns g c = ap length (c.in_ok-put_own.ensures.nodes c.args.units.now (g.met.S.Store.keeps_keys _ _ c.held_number.ensures.later _ _ c.in_ok-key.ensures.key)) ∙ length-changed _ _ _ ∙ ap length c.held_number.ensures.nodes ∙ ap length c.key_of.ensures.nodes
+returns g c = ap (λ (view : View). length view.nodes) (c.in_ok-put_own.ensures.ok c.args.units.now (g.met.S.Store.keeps_keys _ _ c.held_number.ensures.later _ _ c.in_ok-key.ensures.key)) ∙ length-changed _ _ _ ∙ ap (λ (view : View). length view.nodes) c.held_number.ensures.view ∙ ap length c.key_of.ensures.nodes

@@ -1,7 +1,7 @@
 use Rattle.std.proofs.Common.{length}
 use Rattle.snap_store.specs.Plain.{node_in}
 use Rattle.snap_store.specs.PlainHeaps.{heap_nodes}
-use Rattle.snap_store.proofs.Altering.{here, is_changed, is_resource, keeps_lawful, keeps_within}
+use Rattle.snap_store.proofs.Altering.{here, is_changed, is_resource, keeps_keyed, keeps_lawful, keeps_within}
 use Rattle.spec_values.specs.Operations.{closed_node}
 use Rattle.spec_values.proofs.Elements.{with_closed_lawful}
 use Rattle.snap_store.proofs.plain_heap.PlainHeap.close.Goals as goal
@@ -27,3 +27,8 @@ returns-clause-nodes c =
     is_changed heap.texts.items heap.nodes.items c.args.node c.index_mut.result.now c.requires.number c.index_mut.ensures.value c.close.new.self
     closed_node
     (c.close.ensures.means heap.texts.items)
+
+pub returns-clause-keyed : goal.returns-clause-keyed
+returns-clause-keyed c = λ key_of all.
+    let heap = c.args.self.now in
+    keeps_keyed heap.texts.items heap.nodes.items c.args.node c.index_mut.result.now c.requires.number c.index_mut.ensures.value key_of c.close.new.self (c.close.ensures.keyed key_of) all

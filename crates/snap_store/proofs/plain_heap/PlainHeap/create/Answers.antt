@@ -2,7 +2,7 @@ use Rattle.std.proofs.Common.{length, None, Some, ap, ◌∙◌, arith}
 use Rattle.std.proofs.lemmas.Bool.{le-leb, lt-leb}
 use Rattle.snap_store.specs.Plain.{node_in, value_in}
 use Rattle.snap_store.specs.PlainHeaps.{heap_nodes, heap_properties}
-use Rattle.snap_store.proofs.Altering.{here, is_changed, keeps_lawful, keeps_within, kind_here, loose_here, place_here}
+use Rattle.snap_store.proofs.Altering.{here, is_changed, keeps_keyed, keeps_lawful, keeps_within, kind_here, loose_here, place_here}
 use Rattle.spec_values.specs.Operations.{put_under, with_properties}
 use Rattle.spec_values.proofs.Elements.{with_own_lawful}
 use Rattle.snap_store.proofs.Altering.{is_same, same_lawful}
@@ -47,10 +47,20 @@ pub returns-then-properties-clause-fault : goal.returns-then-properties-clause-f
 returns-then-properties-clause-fault c =
     let heap = c.args.self.now in
     let full = full_kept heap.texts.items heap.nodes.items c.args.node c.args.key c.requires.place in
-    full ∙ le-leb 1048576 (length (heap_properties heap c.args.node)) (omega (arith, ap length c.properties.ensures, c.if-properties.true))
+    full ∙ le-leb 1048576 (length (heap_properties heap c.args.node)) (omega (arith, ap length c.properties.ensures.value, c.if-properties.true))
 
 pub returns-clause-fault : goal.returns-clause-fault
 returns-clause-fault c =
     let heap = c.args.self.now in
     let full = full_kept heap.texts.items heap.nodes.items c.args.node c.args.key c.requires.place in
-    full ∙ lt-leb 1048576 (length (heap_properties heap c.args.node)) (omega (arith, ap length c.properties.ensures, c.if-properties.false))
+    full ∙ lt-leb 1048576 (length (heap_properties heap c.args.node)) (omega (arith, ap length c.properties.ensures.value, c.if-properties.false))
+
+pub returns-clause-keyed : goal.returns-clause-keyed
+returns-clause-keyed c = λ key_of means all.
+    let heap = c.args.self.now in
+    keeps_keyed heap.texts.items heap.nodes.items c.args.node c.index_mut.result.now c.requires.number c.index_mut.ensures.value key_of c.create.new.self (c.create.ensures.keyed key_of means) all
+
+pub returns-in_err-create-clause-keyed : goal.returns-in_err-create-clause-keyed
+returns-in_err-create-clause-keyed c = λ key_of means all.
+    let heap = c.args.self.now in
+    keeps_keyed heap.texts.items heap.nodes.items c.args.node c.index_mut.result.now c.requires.number c.index_mut.ensures.value key_of c.create.new.self (c.create.ensures.keyed key_of means) all

@@ -1,7 +1,7 @@
 use Rattle.std.proofs.Common.{length}
 use Rattle.snap_store.specs.Plain.{node_in}
 use Rattle.snap_store.specs.PlainHeaps.{heap_nodes}
-use Rattle.snap_store.proofs.Altering.{here, is_changed, keeps_lawful, keeps_within}
+use Rattle.snap_store.proofs.Altering.{here, is_changed, keeps_keyed, keeps_lawful, keeps_within}
 use Rattle.spec_values.specs.Operations.{frozen_node}
 use Rattle.spec_values.proofs.Elements.{with_frozen_lawful}
 use Rattle.snap_store.proofs.plain_heap.PlainHeap.freeze.Goals as goal
@@ -27,3 +27,8 @@ returns-clause-nodes c =
     is_changed heap.texts.items heap.nodes.items c.args.node c.index_mut.result.now c.requires c.index_mut.ensures.value c.freeze.new.self
     frozen_node
     (c.freeze.ensures.means heap.texts.items)
+
+pub returns-clause-keyed : goal.returns-clause-keyed
+returns-clause-keyed c = λ key_of all.
+    let heap = c.args.self.now in
+    keeps_keyed heap.texts.items heap.nodes.items c.args.node c.index_mut.result.now c.requires c.index_mut.ensures.value key_of c.freeze.new.self (c.freeze.ensures.keyed key_of) all

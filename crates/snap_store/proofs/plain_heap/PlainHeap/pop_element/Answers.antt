@@ -6,7 +6,7 @@ use Rattle.snap_graph.specs.declared.kind.Kind.TheVariants as kind
 use Rattle.snap_graph.specs.declared.value.Value.{Value}
 use Rattle.snap_store.specs.Plain.{node_in, value_in}
 use Rattle.snap_store.specs.PlainHeaps.{heap_nodes}
-use Rattle.snap_store.proofs.Altering.{elements_here, here, is_changed, keeps_lawful, keeps_within, loose_here, node_within, of_kind}
+use Rattle.snap_store.proofs.Altering.{elements_here, here, is_changed, keeps_keyed, keeps_lawful, keeps_within, loose_here, node_within, of_kind}
 use Rattle.spec_values.specs.Operations.{with_elements}
 use Rattle.spec_values.proofs.Elements.{with_fewer_lawful}
 use Rattle.spec_values.proofs.Made.{lawful_at}
@@ -54,3 +54,8 @@ returns-clause-meaning c =
     ∙ sym (slice_get-map (value_in heap.texts.items) kept (length kept - 1))
     ∙ ap (λ (n : ℕ). slice_get (map (value_in heap.texts.items) kept) (n - 1)) (sym (length-map kept (value_in heap.texts.items)))
     ∙ ap (λ (vs : List Value). slice_get vs (length vs - 1)) (sym elements)
+
+pub returns-clause-keyed : goal.returns-clause-keyed
+returns-clause-keyed c = λ key_of all.
+    let heap = c.args.self.now in
+    keeps_keyed heap.texts.items heap.nodes.items c.args.node c.index_mut.result.now c.requires.number c.index_mut.ensures.value key_of c.pop_element.new.self (c.pop_element.ensures.keyed key_of) all

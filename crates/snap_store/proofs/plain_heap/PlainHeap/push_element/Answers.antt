@@ -1,7 +1,7 @@
 use Rattle.std.proofs.Common.{[], ◌∷◌, ◌++◌, length}
 use Rattle.snap_store.specs.Plain.{node_in, value_in}
 use Rattle.snap_store.specs.PlainHeaps.{heap_nodes}
-use Rattle.snap_store.proofs.Altering.{here, is_changed, keeps_lawful, keeps_within, may_hold}
+use Rattle.snap_store.proofs.Altering.{here, is_changed, keeps_keyed, keeps_lawful, keeps_within, may_hold}
 use Rattle.spec_values.specs.Operations.{with_elements}
 use Rattle.spec_values.proofs.Elements.{with_more_lawful}
 use Rattle.snap_store.proofs.Altering.{is_same, same_lawful}
@@ -40,3 +40,13 @@ returns-clause-nodes c =
     is_changed heap.texts.items heap.nodes.items c.args.node old c.requires.number read c.push_element.new.self
     (with_elements (λ elements. elements ++ (value_in heap.texts.items c.args.held) ∷ []))
     (means heap.texts.items)
+
+pub returns-clause-keyed : goal.returns-clause-keyed
+returns-clause-keyed c = λ key_of all.
+    let heap = c.args.self.now in
+    keeps_keyed heap.texts.items heap.nodes.items c.args.node c.index_mut.result.now c.requires.number c.index_mut.ensures.value key_of c.push_element.new.self (c.push_element.ensures.keyed key_of) all
+
+pub returns-in_err-push_element-clause-keyed : goal.returns-in_err-push_element-clause-keyed
+returns-in_err-push_element-clause-keyed c = λ key_of all.
+    let heap = c.args.self.now in
+    keeps_keyed heap.texts.items heap.nodes.items c.args.node c.index_mut.result.now c.requires.number c.index_mut.ensures.value key_of c.push_element.new.self (c.push_element.ensures.keyed key_of) all

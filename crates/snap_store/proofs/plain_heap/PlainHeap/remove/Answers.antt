@@ -1,7 +1,7 @@
 use Rattle.std.proofs.Common.{length, Some}
 use Rattle.snap_store.specs.Plain.{node_in}
 use Rattle.snap_store.specs.PlainHeaps.{heap_nodes}
-use Rattle.snap_store.proofs.Altering.{here, is_changed, keeps_lawful, keeps_within, loose_here, node_within, place_here}
+use Rattle.snap_store.proofs.Altering.{here, is_changed, keeps_keyed, keeps_lawful, keeps_within, loose_here, node_within, place_here}
 use Rattle.snap_store.proofs.Owning.{keys_apart}
 use Rattle.spec_values.specs.Operations.{remove_under, with_properties}
 use Rattle.spec_values.proofs.Elements.{without_own_lawful}
@@ -31,3 +31,8 @@ returns-clause-nodes c = λ key place.
     is_changed heap.texts.items heap.nodes.items c.args.node old c.requires.number read c.remove.new.self
     (with_properties (remove_under key))
     (c.remove.ensures.means heap.texts.items key (place_here heap.texts.items heap.nodes.items c.args.node old c.requires.number read key (Some c.args.place) place) (keys_apart heap.texts.items (heap_nodes heap) old (lawful_at (heap_nodes heap) heap.lawful c.args.node (node_in heap.texts.items old) (here heap.texts.items heap.nodes.items c.args.node old c.requires.number read)) (node_within heap.texts.items heap.nodes.items c.args.node old c.requires.number read (length heap.texts.items) heap.within)))
+
+pub returns-clause-keyed : goal.returns-clause-keyed
+returns-clause-keyed c = λ key_of all.
+    let heap = c.args.self.now in
+    keeps_keyed heap.texts.items heap.nodes.items c.args.node c.index_mut.result.now c.requires.number c.index_mut.ensures.value key_of c.remove.new.self (c.remove.ensures.keyed key_of) all

@@ -1,7 +1,7 @@
 use Rattle.std.proofs.Common.{length, slice_set}
 use Rattle.snap_store.specs.Plain.{node_in, value_in}
 use Rattle.snap_store.specs.PlainHeaps.{heap_nodes}
-use Rattle.snap_store.proofs.Altering.{here, is_changed, keeps_lawful, keeps_within, may_hold}
+use Rattle.snap_store.proofs.Altering.{here, is_changed, keeps_keyed, keeps_lawful, keeps_within, may_hold}
 use Rattle.spec_values.specs.Operations.{with_elements}
 use Rattle.spec_values.proofs.Elements.{with_element_lawful}
 use Rattle.snap_store.proofs.plain_heap.PlainHeap.set_element.Goals as goal
@@ -27,3 +27,8 @@ returns-clause-nodes c =
     is_changed heap.texts.items heap.nodes.items c.args.node c.index_mut.result.now c.requires.number c.index_mut.ensures.value c.set_element.new.self
     (with_elements (λ elements. slice_set elements c.args.i (value_in heap.texts.items c.args.held)))
     (c.set_element.ensures.means heap.texts.items)
+
+pub returns-clause-keyed : goal.returns-clause-keyed
+returns-clause-keyed c = λ key_of all.
+    let heap = c.args.self.now in
+    keeps_keyed heap.texts.items heap.nodes.items c.args.node c.index_mut.result.now c.requires.number c.index_mut.ensures.value key_of c.set_element.new.self (c.set_element.ensures.keyed key_of) all

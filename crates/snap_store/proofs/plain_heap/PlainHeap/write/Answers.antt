@@ -1,7 +1,7 @@
 use Rattle.std.proofs.Common.{length, Some, ap, ◌∙◌}
 use Rattle.snap_store.specs.Plain.{node_in, value_in}
 use Rattle.snap_store.specs.PlainHeaps.{heap_nodes}
-use Rattle.snap_store.proofs.Altering.{here, is_changed, keeps_lawful, keeps_within, kind_here, loose_here, place_here}
+use Rattle.snap_store.proofs.Altering.{here, is_changed, keeps_keyed, keeps_lawful, keeps_within, kind_here, loose_here, place_here}
 use Rattle.spec_values.specs.Operations.{put_under, with_properties}
 use Rattle.spec_values.proofs.Elements.{with_own_lawful}
 use Rattle.snap_store.proofs.plain_heap.PlainHeap.write.Goals as goal
@@ -29,3 +29,8 @@ returns-clause-nodes c = λ key place.
     is_changed heap.texts.items heap.nodes.items c.args.node old c.requires.number read c.write.new.self
     (with_properties (put_under key (value_in heap.texts.items c.args.held)))
     (c.write.ensures.means heap.texts.items key (place_here heap.texts.items heap.nodes.items c.args.node old c.requires.number read key (Some c.args.place) place))
+
+pub returns-clause-keyed : goal.returns-clause-keyed
+returns-clause-keyed c = λ key_of all.
+    let heap = c.args.self.now in
+    keeps_keyed heap.texts.items heap.nodes.items c.args.node c.index_mut.result.now c.requires.number c.index_mut.ensures.value key_of c.write.new.self (c.write.ensures.keyed key_of) all

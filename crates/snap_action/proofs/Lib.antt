@@ -1,0 +1,5 @@
+pub mod Called
+pub mod Follows
+pub mod Growing
+pub mod Lifting
+pub mod Throwing

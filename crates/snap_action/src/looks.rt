@@ -1,0 +1,71 @@
+//! Calls of a store that look at what it stands for, as the actions that they are.
+
+ghost use Rattle.std.specs.Prelude.{◌≡◌, ◌<◌, Some, Ok, length, slice_get};
+ghost use Rattle.snap_action.specs.Gives.{Gives, as_held, as_is, as_some};
+ghost use Rattle.snap_store.specs.Calls.{own_keys_of, prototype_of};
+ghost use Rattle.spec_values.specs.Access.{kind_of};
+ghost use Rattle.spec_values.specs.Operations.{elements_of, is_frozen, own_value, see};
+
+use crate::fault::Abrupt;
+use snap_base::Items;
+use snap_graph::Kind;
+use snap_store::Store;
+use snap_text::{Key, Units};
+
+/// What a node is.
+pub fn kind_of_node<S: Store>(store: &S, node: u32) -> Kind
+    requires { node < length (S.view store.now).nodes }
+    ensures { Gives S.Store store.now store.now (as_some as_is) (Ok (Some result)) (see (λ nodes. kind_of nodes node)) }
+{
+    store.kind(node)
+}
+
+/// The prototype of a node.
+pub fn prototype_of<S: Store>(store: &S, node: u32) -> S::Held
+    requires { node < length (S.view store.now).nodes }
+    ensures { Gives S.Store store.now store.now (as_some (as_held S.Store store.now)) (Ok (Some result)) (see (λ nodes. prototype_of nodes node)) }
+{
+    store.prototype(node)
+}
+
+/// Whether a node is frozen.
+pub fn is_frozen<S: Store>(store: &S, node: u32) -> bool
+    requires { node < length (S.view store.now).nodes }
+    ensures { Gives S.Store store.now store.now as_is (Ok result) (see (λ nodes. is_frozen nodes node)) }
+{
+    store.is_frozen(node)
+}
+
+/// What a node holds under a key of its own. The key is that of the text.
+pub fn own_property<S: Store>(store: &S, node: u32, text: &Units, key: Key) -> Option<S::Held>
+    requires number { node < length (S.view store.now).nodes }
+    requires key { S.key_of store.now text.now ≡ Some key }
+    ensures { Gives S.Store store.now store.now (as_some (as_held S.Store store.now)) (Ok result) (see (λ nodes. own_value nodes node text.now)) }
+{
+    store.own(node, key)
+}
+
+/// The texts of a node's own keys, in the order of own keys (ECMA-262, 10.1.11).
+pub fn list_own_keys<S: Store>(store: &S, node: u32) -> Result<Items<Units>, Abrupt<S::Held>>
+    requires { node < length (S.view store.now).nodes }
+    ensures { Gives S.Store store.now store.now as_is result (see (λ nodes. own_keys_of nodes node)) }
+{
+    Ok(Items::from_vec(store.own_keys(node)?))
+}
+
+/// How many elements a node has.
+pub fn count_elements<S: Store>(store: &S, node: u32) -> u32
+    requires { node < length (S.view store.now).nodes }
+    ensures { Gives S.Store store.now store.now as_is (Ok result) (see (λ nodes. length (elements_of nodes node))) }
+{
+    store.count(node)
+}
+
+/// An element of a node.
+pub fn read_element<S: Store>(store: &S, node: u32, i: u32) -> S::Held
+    requires number { node < length (S.view store.now).nodes }
+    requires place { i < length (elements_of (S.view store.now).nodes node) }
+    ensures { Gives S.Store store.now store.now (as_some (as_held S.Store store.now)) (Ok (Some result)) (see (λ nodes. slice_get (elements_of nodes node) i)) }
+{
+    store.element(node, i)
+}

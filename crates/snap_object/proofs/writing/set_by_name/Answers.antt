@@ -1,0 +1,8 @@
+use Rattle.std.proofs.Common.{refl}
+use Rattle.snap_graph.specs.declared.value.Value.TheVariants.{Text}
+use Rattle.snap_action.proofs.Follows.{unmet}
+use Rattle.snap_object.proofs.Growing.{set_grows}
+use Rattle.snap_object.proofs.writing.set_by_name.Goals as goal
+
+pub returns-in_err-base-clause-gives : goal.returns-in_err-base-clause-gives
+returns-in_err-base-clause-gives g c = unmet (record { view = refl; later = g.met.S.Store.at_once c.args.store.now }) (set_grows (g.S.Store.meaning c.args.store.now c.args.base.now) (Text c.args.name.now.text) (g.S.Store.meaning c.args.store.now c.args.held.now)) c.from_residual.result c.from_residual.ensures.1
