@@ -16,6 +16,6 @@ pub use keys::Keys;
 pub use no_memory::NoMemory;
 pub use number::decimal;
 pub use own_keys::OwnKeys;
-pub use print::print_utf8;
+pub use print::{print_units, print_utf8};
 pub use units::Units;
 pub use view::StrView;

@@ -14,8 +14,16 @@ pub fn print_utf8(text: &Units, out: &mut Vec<u8>) -> Result<(), NoMemory>
     ensures ok { OnOk result (out.new.items ≡ out.old.items ++ utf8_of text.now) }
     ensures err { OnErr result (out.new.items ≡ out.old.items) }
 {
+    print_units(text.units(), out)
+}
+
+/// Appends the UTF-8 form of the text that these units are, as `print_utf8` does.
+pub fn print_units(units: &[u16], out: &mut Vec<u8>) -> Result<(), NoMemory>
+    ensures ok { OnOk result (out.new.items ≡ out.old.items ++ utf8_of units.now) }
+    ensures err { OnErr result (out.new.items ≡ out.old.items) }
+{
     let length = out.len();
-    let printed = append(text.units(), out);
+    let printed = append(units, out);
     if printed.is_err() {
         out.truncate(length);
     }
