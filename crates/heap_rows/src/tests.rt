@@ -6,5 +6,6 @@ mod objects;
 mod operators;
 mod refused;
 mod stores;
+mod texts;
 mod told_keys;
 mod values;

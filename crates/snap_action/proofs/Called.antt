@@ -73,7 +73,7 @@ module _ {S H : Type 0} {store : Ghosts S H} {first last : S} where
       left_as (with_nodes (store.view first) (with_own (store.view first).nodes number key value)) (put_own number key value) e refl later tt
       (λ keys. ap (λ (b : Bool). if b then StoppedAt stop.TooLong (standing (store.view first) keys) else Gave (tt {0}) (standing (with_nodes (store.view first) (with_own (store.view first).nodes number key value)) keys)) room)
 
-  pub put_refused : (number : ℕ) (key : List ℕ) (value : Value) (why : StoreFault) → EndsWhere (is_full (store.view first).nodes number key) (Err why) → Unmoved store first last
+  pub put_refused : (number : ℕ) (key : List ℕ) (value : Value) (why : StoreFault) → EndsWhere {A = Unit {0}} (is_full (store.view first).nodes number key) (Err why) → Unmoved store first last
       → (result : Result (Unit {0}) (Abrupt H)) → IsErrAnd result (λ fault. fault ≡ abrupt_of why) → Gives store first last as_is result (put_own number key value)
   put_refused number key value TooManyNodes e h result is = absurd e
   put_refused number key value TooLong full h result is =
@@ -102,7 +102,7 @@ module _ {S H : Type 0} {store : Ghosts S H} {first last : S} where
       left_as (with_nodes (store.view first) (with_more (store.view first).nodes number value)) (push_element number value) e refl later tt
       (λ keys. ap (λ (b : Bool). if b then StoppedAt stop.TooLong (standing (store.view first) keys) else Gave (tt {0}) (standing (with_nodes (store.view first) (with_more (store.view first).nodes number value)) keys)) (long_array (store.view first).nodes number false k room))
 
-  pub push_refused : (number : ℕ) (value : Value) (why : StoreFault) → kind_of (store.view first).nodes number ≡ Some kind.Array → EndsWhere (is_long (store.view first).nodes number) (Err why) → Unmoved store first last
+  pub push_refused : (number : ℕ) (value : Value) (why : StoreFault) → kind_of (store.view first).nodes number ≡ Some kind.Array → EndsWhere {A = Unit {0}} (is_long (store.view first).nodes number) (Err why) → Unmoved store first last
       → (result : Result (Unit {0}) (Abrupt H)) → IsErrAnd result (λ fault. fault ≡ abrupt_of why) → Gives store first last as_is result (push_element number value)
   push_refused number value TooManyNodes k e h result is = absurd e
   push_refused number value TooLong k full h result is =
@@ -110,7 +110,7 @@ module _ {S H : Type 0} {store : Ghosts S H} {first last : S} where
       (λ keys. ap (λ (b : Bool). if b then StoppedAt stop.TooLong (standing (store.view first) keys) else Gave (tt {0}) (standing (with_nodes (store.view first) (with_more (store.view first).nodes number value)) keys)) (long_array (store.view first).nodes number true k full)) result is
   push_refused number value NoMemory k e h result is = unmet h (push_grows number value) result is
 
-  pub add_refused : (number : ℕ) (value : Value) (why : StoreFault) → is_array (kind_of (store.view first).nodes number) ≡ false → EndsWhere (is_long (store.view first).nodes number) (Err why) → Unmoved store first last
+  pub add_refused : (number : ℕ) (value : Value) (why : StoreFault) → is_array (kind_of (store.view first).nodes number) ≡ false → EndsWhere {A = Unit {0}} (is_long (store.view first).nodes number) (Err why) → Unmoved store first last
       → (result : Result (Unit {0}) (Abrupt H)) → IsErrAnd result (λ fault. fault ≡ abrupt_of why) → Gives store first last as_is result (add_element number value)
   add_refused number value TooManyNodes k e h result is = absurd e
   add_refused number value TooLong k full h result is = absurd (false≢true (sym (ap (λ (b : Bool). b && nat_le MOST_ITEMS (length (elements_of (store.view first).nodes number))) k) ∙ full))

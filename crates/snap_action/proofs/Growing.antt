@@ -1,5 +1,5 @@
 -- Actions on a heap go on from the heap in which they begin.
-use Rattle.std.proofs.Common.{ℕ, ◌&&◌, Bool, true, false, not, nat_lt, nat_le, List, [], ◌∷◌, codes, length, is_some, refl, arith, if◌then◌else◌}
+use Rattle.std.proofs.Common.{ℕ, ◌&&◌, Bool, true, false, not, nat_lt, nat_le, List, [], ◌∷◌, codes, length, is_some, refl, arith, if◌then◌else◌, Result, Ok, Err}
 use Rattle.snap_base.specs.declared.limits.TheConstants.{MOST_ITEMS, MOST_PRIVATE_NODES, MOST_PROPERTIES}
 use Rattle.snap_base.specs.declared.stop.Stop.{Stop}
 use Rattle.snap_base.specs.declared.stop.Stop.TheVariants.{TooLong, TooManyNodes}
@@ -8,7 +8,7 @@ use Rattle.snap_graph.specs.declared.kind.Kind.TheVariants as kind
 use Rattle.snap_graph.specs.declared.node.Node.{Node}
 use Rattle.snap_graph.specs.declared.value.Value.{Value}
 use Rattle.snap_graph.specs.declared.value.Value.TheVariants.{Text, Node as At}
-use Rattle.spec_values.specs.Access.{throw_error}
+use Rattle.spec_values.specs.Access.{or_stop, throw_error}
 use Rattle.spec_values.specs.Answer.{Action, Heap, HeapAnswer, Stopped, give, stop, throw_value, use_key}
 use Rattle.spec_values.specs.Operations.{change, elements_of, make, own_value, properties_of, push_element, put_own, remove_own, see}
 use Rattle.spec_values.specs.State.{Precedes, heap_progress, left_by}
@@ -23,6 +23,10 @@ give_grows x = record { on = λ heap. precedes_itself (heap_progress heap) }
 
 pub stop_grows : {A : Type 0} (why : Stop) → Goes (stop {A = A} why)
 stop_grows why = record { on = λ heap. precedes_itself (heap_progress heap) }
+
+pub or_stop_grows : {A : Type 0} (result : Result A Stop) → Goes (or_stop result)
+or_stop_grows (Ok x) = give_grows x
+or_stop_grows (Err why) = stop_grows why
 
 pub throw_grows : {A : Type 0} (value : Value) → Goes (throw_value {A = A} value)
 throw_grows value = record { on = λ heap. precedes_itself (heap_progress heap) }

@@ -1,15 +1,18 @@
 //! Names of properties that are kept, so that a store is asked once for the key of each.
 
-ghost use Rattle.std.specs.Prelude.{◌≡◌, None, codes};
+ghost use Rattle.std.specs.Prelude.{◌≡◌, None, Some, IfOk, OnErr, OnOk, codes};
 ghost use Rattle.std.specs.Str.{bytes_eq as text_eq};
 ghost use Rattle.snap_action.specs.Gives.{Gives, as_key};
 ghost use Rattle.snap_action.specs.Names.{IsKnown};
+ghost use Rattle.snap_arena.specs.Views.{units};
 ghost use Rattle.snap_graph.specs.OwnKeys.{array_index};
 ghost use Rattle.spec_values.specs.Answer.{use_key};
 
 use crate::fault::Abrupt;
+use snap_arena::TextView;
 use snap_store::{Store, array_index};
-use snap_text::{Key, StrView, Units};
+use snap_text::{Key, NoMemory, StrView, Units};
+use std::alloc::Global;
 use std::marker::Model;
 
 /// The name of a property: its text, the array index that this is, whether it is `__proto__`, and the key of the text,
@@ -50,6 +53,34 @@ impl Name {
         }
     }
 
+    /// Makes it the name of another text, whose key no store was asked for yet. Where the memory of the text that it had is
+    /// enough, none is taken; where memory is refused, it stays as it was.
+    pub fn rename(&mut self, alloc: Global, text: &TextView<'_>) -> Result<(), NoMemory>
+        ensures ok { OnOk result (self.new ≡ record { text = units text.now; key = None }) }
+        ensures err { OnErr result (self.new ≡ self.old) }
+    {
+        let empty = Name::new(Units::from_vec(Vec::new(alloc)));
+        let Name {
+            text: old,
+            key,
+            index,
+            is_proto,
+        } = std::mem::replace(self, empty);
+        let mut list = old.into_vec();
+        let copied = text.copy_into(&mut list);
+        let text = Units::from_vec(list);
+        *self = match copied {
+            Ok(()) => Name::new(text),
+            Err(_) => Name {
+                text,
+                key,
+                index,
+                is_proto,
+            },
+        };
+        copied
+    }
+
     /// Its text.
     pub fn text(&self) -> &Units
         ensures { result.now ≡ self.now.text }
@@ -80,6 +111,7 @@ pub fn use_name<S: Store>(store: &mut S, name: &mut Name) -> Result<Key, Abrupt<
     ensures nodes { (S.view store.new).nodes ≡ (S.view store.old).nodes }
     ensures text { name.new.text ≡ name.old.text }
     ensures known { IsKnown (S.key_of store.new) name.new }
+    ensures kept { IfOk result (λ key. name.new.key ≡ Some key) }
 {
     match name.key {
         Some(key) => {

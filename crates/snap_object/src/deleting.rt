@@ -14,6 +14,7 @@ use crate::errors::type_error;
 use crate::indices::element_of;
 use crate::names::{name_of, named_key};
 use crate::outside::{outside, unspelled};
+use crate::texts::{base_of, named_by};
 use crate::words::{is_length, is_size, is_special};
 use snap_action::{Abrupt, Name};
 use snap_base::Stop;
@@ -32,7 +33,7 @@ pub fn delete<S: Store>(
     requires { S.owns store.old base.now }
     ensures { Gives S.Store store.old store.new as_is result (delete (S.meaning store.old base.now) key.now) }
 {
-    let base = store.value(base)?;
+    let base = base_of(alloc, store, base)?;
     match name_of(alloc, key)? {
         Some(mut name) => delete_of(alloc, store, &base, &mut name),
         None => Err(unspelled(alloc, store, &base)),
@@ -51,8 +52,28 @@ pub fn delete_by_name<S: Store>(
     ensures gives { Gives S.Store store.old store.new as_is result (delete (S.meaning store.old base.now) (Text name.old.text)) }
     ensures kept { StaysKnown (S.key_of store.new) name.old name.new }
 {
-    let base = store.value(base)?;
+    let base = base_of(alloc, store, base)?;
     delete_of(alloc, store, &base, name)
+}
+
+/// Deletes a property of a base by a key that is held: exactly what `delete` does by the key's value. The name is a place to
+/// work in, as for `set_by_key`.
+pub fn delete_by_key<S: Store>(
+    alloc: Global,
+    store: &mut S,
+    base: &S::Held,
+    key: &S::Held,
+    name: &mut Name,
+) -> Result<bool, Abrupt<S::Held>>
+    requires base { S.owns store.old base.now }
+    requires key { S.owns store.old key.now }
+    ensures { Gives S.Store store.old store.new as_is result (delete (S.meaning store.old base.now) (S.meaning store.old key.now)) }
+{
+    if named_by(alloc, store, key, name)? {
+        return delete_by_name(alloc, store, base, name);
+    }
+    let key = store.value(key)?;
+    delete(alloc, store, base, &key)
 }
 
 // Deletes a property of a value.

@@ -1,14 +1,15 @@
 //! Reading a property.
 
-ghost use Rattle.std.specs.Prelude.{◌≡◌, ◌<◌, ℕ, pos, None, Some, IfOk, length, slice_get};
+ghost use Rattle.std.specs.Prelude.{◌≡◌, ◌<◌, None, Some, IfOk, IsSome, length, slice_get};
 ghost use Rattle.snap_action.specs.Gives.{Gives, as_held};
 ghost use Rattle.snap_action.specs.Names.{IsKnown};
 ghost use Rattle.snap_graph.specs.declared.intrinsic.TheConstants.{STRING_PROTOTYPE};
-ghost use Rattle.snap_graph.specs.declared.value.Value.TheVariants.{Int, Node as At, Text};
+ghost use Rattle.snap_graph.specs.declared.value.Value.TheVariants.{Node as At, Text};
 ghost use Rattle.snap_graph.specs.OwnKeys.{array_index};
 ghost use Rattle.snap_graph.specs.Values.{IsPlace};
 ghost use Rattle.snap_object.specs.Names.{StaysKnown};
 ghost use Rattle.snap_object.specs.Parts.{element_read, looked_up, node_rest, text_rest};
+ghost use Rattle.snap_store.specs.Calls.{text_units, units_in};
 ghost use Rattle.spec_values.specs.Access.{element_of, get, get_of_node, get_of_text, index_of, unit_or_undefined};
 ghost use Rattle.spec_values.specs.Answer.{give};
 
@@ -18,8 +19,9 @@ use crate::names::{name_of, named_key};
 use crate::outside::{outside, unspelled};
 use crate::search::{Found, find};
 use crate::sizes::{count_value, size_of};
+use crate::texts::{is_text, named_by};
 use crate::words::{is_array, is_length, is_word};
-use snap_action::{Abrupt, Name, hold_value};
+use snap_action::{Abrupt, Name, hold_value, part_of_text, text_length};
 use snap_base::{NoMemory, Stop};
 use snap_graph::{Value, intrinsic};
 use snap_store::Store;
@@ -36,11 +38,34 @@ pub fn get<S: Store>(
     requires { S.owns store.old base.now }
     ensures { Gives S.Store store.old store.new (as_held S.Store store.new) result (get (S.meaning store.old base.now) key.now) }
 {
+    if is_text(store, base) {
+        return get_from_text(alloc, store, base, key);
+    }
     let base = store.value(base)?;
     match integer_index(key) {
         Some(place) => get_at(alloc, store, &base, key, place),
         None => get_spelled(alloc, store, &base, key),
     }
+}
+
+/// Reads a property of a base by a key that is held: exactly what `get` reads by the key's value. The name is a place to work
+/// in, as for `set_by_key`.
+pub fn get_by_key<S: Store>(
+    alloc: Global,
+    store: &mut S,
+    base: &S::Held,
+    key: &S::Held,
+    name: &mut Name,
+) -> Result<S::Held, Abrupt<S::Held>>
+    requires base { S.owns store.old base.now }
+    requires key { S.owns store.old key.now }
+    ensures { Gives S.Store store.old store.new (as_held S.Store store.new) result (get (S.meaning store.old base.now) (S.meaning store.old key.now)) }
+{
+    if named_by(alloc, store, key, name)? {
+        return get_by_name(alloc, store, base, name);
+    }
+    let key = store.value(key)?;
+    get(alloc, store, base, &key)
 }
 
 /// Reads a property of a base by a name: exactly what `get` reads by the name's text. The store is asked once for the
@@ -56,8 +81,47 @@ pub fn get_by_name<S: Store>(
     ensures gives { Gives S.Store store.old store.new (as_held S.Store store.new) result (get (S.meaning store.old base.now) (Text name.old.text)) }
     ensures kept { StaysKnown (S.key_of store.new) name.old name.new }
 {
+    if is_text(store, base) {
+        return get_of_text(alloc, store, base, name);
+    }
     let base = store.value(base)?;
     get_of(alloc, store, &base, name)
+}
+
+// Reads a property of a text.
+fn get_from_text<S: Store>(
+    alloc: Global,
+    store: &mut S,
+    text: &S::Held,
+    key: &Value,
+) -> Result<S::Held, Abrupt<S::Held>>
+    requires owned { S.owns store.old text.now }
+    requires text { IsSome (text_units (S.meaning store.old text.now)) }
+    ensures { Gives S.Store store.old store.new (as_held S.Store store.new) result
+        (get_of_text (units_in (S.meaning store.old text.now)) key.now (index_of key.now)) }
+{
+    match integer_index(key) {
+        Some(place) => unit_of(store, text, place),
+        None => spelled_of_text(alloc, store, text, key),
+    }
+}
+
+// Reads from a text by the name that a key is.
+fn spelled_of_text<S: Store>(
+    alloc: Global,
+    store: &mut S,
+    text: &S::Held,
+    key: &Value,
+) -> Result<S::Held, Abrupt<S::Held>>
+    requires owned { S.owns store.old text.now }
+    requires text { IsSome (text_units (S.meaning store.old text.now)) }
+    ensures { Gives S.Store store.old store.new (as_held S.Store store.new) result
+        (get_of_text (units_in (S.meaning store.old text.now)) key.now (index_of key.now)) }
+{
+    match name_of(alloc, key)? {
+        Some(mut name) => get_of_text(alloc, store, text, &mut name),
+        None => Err(Abrupt::Stopped(Stop::NotInProfile)),
+    }
 }
 
 // Reads by an integer that is an array index.
@@ -69,11 +133,11 @@ fn get_at<S: Store>(
     place: u32,
 ) -> Result<S::Held, Abrupt<S::Held>>
     requires base { IsPlace (length (S.view store.old).nodes) base.now }
+    requires plain { text_units base.now ≡ None }
     requires place { index_of key.now ≡ Some place }
     ensures { Gives S.Store store.old store.new (as_held S.Store store.new) result (get base.now key.now) }
 {
     match base {
-        Value::Text(text) => unit_of(alloc, store, text, place),
         Value::Node(node) => node_at(alloc, store, base, *node, key, place),
         _ => get_spelled(alloc, store, base, key),
     }
@@ -107,7 +171,8 @@ fn get_spelled<S: Store>(
     base: &Value,
     key: &Value,
 ) -> Result<S::Held, Abrupt<S::Held>>
-    requires { IsPlace (length (S.view store.old).nodes) base.now }
+    requires base { IsPlace (length (S.view store.old).nodes) base.now }
+    requires plain { text_units base.now ≡ None }
     ensures { Gives S.Store store.old store.new (as_held S.Store store.new) result (get base.now key.now) }
 {
     match name_of(alloc, key)? {
@@ -116,7 +181,7 @@ fn get_spelled<S: Store>(
     }
 }
 
-// Reads a property of a value by a name.
+// Reads a property of a value by a name. The value is no text.
 fn get_of<S: Store>(
     alloc: Global,
     store: &mut S,
@@ -124,6 +189,7 @@ fn get_of<S: Store>(
     name: &mut Name,
 ) -> Result<S::Held, Abrupt<S::Held>>
     requires base { IsPlace (length (S.view store.old).nodes) base.now }
+    requires plain { text_units base.now ≡ None }
     requires known { IsKnown (S.key_of store.old) name.old }
     ensures gives { Gives S.Store store.old store.new (as_held S.Store store.new) result (get base.now (Text name.old.text)) }
     ensures kept { StaysKnown (S.key_of store.new) name.old name.new }
@@ -131,7 +197,7 @@ fn get_of<S: Store>(
     match base {
         Value::Undefined | Value::Null => Err(type_error(alloc, store, b"no properties")),
         Value::Bool(_) | Value::Int(_) => Err(outside(store, name)),
-        Value::Text(text) => get_of_text(alloc, store, base, text, name),
+        Value::Text(_) => unreachable!(),
         Value::Node(node) => get_of_node(alloc, store, base, *node, name),
         Value::Empty => Err(Abrupt::Stopped(Stop::NotInProfile)),
     }
@@ -141,45 +207,46 @@ fn get_of<S: Store>(
 fn get_of_text<S: Store>(
     alloc: Global,
     store: &mut S,
-    base: &Value,
-    text: &Units,
+    text: &S::Held,
     name: &mut Name,
 ) -> Result<S::Held, Abrupt<S::Held>>
-    requires base { base.now ≡ Text text.now }
+    requires owned { S.owns store.old text.now }
+    requires text { IsSome (text_units (S.meaning store.old text.now)) }
     requires known { IsKnown (S.key_of store.old) name.old }
-    ensures gives { Gives S.Store store.old store.new (as_held S.Store store.new) result (get_of_text text.now (Text name.old.text) (array_index name.old.text)) }
+    ensures gives { Gives S.Store store.old store.new (as_held S.Store store.new) result
+        (get_of_text (units_in (S.meaning store.old text.now)) (Text name.old.text) (array_index name.old.text)) }
     ensures kept { StaysKnown (S.key_of store.new) name.old name.new }
 {
     match name.index() {
-        Some(place) => unit_of(alloc, store, text, place),
-        None => named_of_text(alloc, store, base, text, name),
+        Some(place) => unit_of(store, text, place),
+        None => named_of_text(alloc, store, text, name),
     }
 }
 
-// Reads a unit of a text.
-fn unit_of<S: Store>(
-    alloc: Global,
-    store: &mut S,
-    text: &Units,
-    place: u32,
-) -> Result<S::Held, Abrupt<S::Held>>
-    ensures { Gives S.Store store.old store.new (as_held S.Store store.new) result (give (unit_or_undefined (slice_get text.now place))) }
+// Reads a unit of a text, which is a part of it, or undefined where there is none.
+fn unit_of<S: Store>(store: &mut S, text: &S::Held, place: u32) -> Result<S::Held, Abrupt<S::Held>>
+    requires owned { S.owns store.old text.now }
+    requires text { IsSome (text_units (S.meaning store.old text.now)) }
+    ensures { Gives S.Store store.old store.new (as_held S.Store store.new) result
+        (give (unit_or_undefined (slice_get (units_in (S.meaning store.old text.now)) place))) }
 {
-    let unit = unit_at(alloc, text, place)?;
-    hold_value(store, &unit)
+    let length = length_of(store, text)?;
+    if place < length {
+        part_of_text(store, text, place, place + 1)
+    } else {
+        hold_value(store, &Value::Undefined)
+    }
 }
 
-// The unit at a place as a text, or undefined where there is none.
-fn unit_at(alloc: Global, text: &Units, place: u32) -> Result<Value, NoMemory>
-    ensures value { IfOk result (λ value. value ≡ unit_or_undefined (slice_get text.now place)) }
-    ensures place { IfOk result (λ value. (count : ℕ) → IsPlace count value) }
+// How many units a text has.
+fn length_of<S: Store>(store: &S, text: &S::Held) -> Result<u32, NoMemory>
+    requires owned { S.owns store.now text.now }
+    requires text { IsSome (text_units (S.meaning store.now text.now)) }
+    ensures { IfOk result (λ count. count ≡ length (units_in (S.meaning store.now text.now))) }
 {
-    match text.units().get(place as usize) {
-        Some(unit) => match Units::of(alloc, &[*unit]) {
-            Ok(text) => Ok(Value::Text(text)),
-            Err(_) => Err(NoMemory),
-        },
-        None => Ok(Value::Undefined),
+    match text_length(store, text)? {
+        Some(length) => Ok(length),
+        None => unreachable!(),
     }
 }
 
@@ -187,50 +254,46 @@ fn unit_at(alloc: Global, text: &Units, place: u32) -> Result<Value, NoMemory>
 fn named_of_text<S: Store>(
     alloc: Global,
     store: &mut S,
-    base: &Value,
-    text: &Units,
+    text: &S::Held,
     name: &mut Name,
 ) -> Result<S::Held, Abrupt<S::Held>>
-    requires base { base.now ≡ Text text.now }
+    requires owned { S.owns store.old text.now }
+    requires text { IsSome (text_units (S.meaning store.old text.now)) }
     requires known { IsKnown (S.key_of store.old) name.old }
-    ensures gives { Gives S.Store store.old store.new (as_held S.Store store.new) result (get_of_text text.now (Text name.old.text) None) }
+    ensures gives { Gives S.Store store.old store.new (as_held S.Store store.new) result
+        (get_of_text (units_in (S.meaning store.old text.now)) (Text name.old.text) None) }
     ensures kept { StaysKnown (S.key_of store.new) name.old name.new }
 {
     let key = named_key(store, name)?;
-    named_in_text(alloc, store, base, text, name.text(), key)
+    named_in_text(alloc, store, text, name.text(), key)
 }
 
-// Reads what a text has under a name that was used.
+// Reads what a text has under a name that was used. A text is no Map and no Set, so undefined stands for it where their `size`
+// is looked for.
 fn named_in_text<S: Store>(
     alloc: Global,
     store: &mut S,
-    base: &Value,
-    text: &Units,
+    text: &S::Held,
     name: &Units,
     key: Key,
 ) -> Result<S::Held, Abrupt<S::Held>>
-    requires base { base.now ≡ Text text.now }
+    requires owned { S.owns store.old text.now }
+    requires text { IsSome (text_units (S.meaning store.old text.now)) }
     requires key { S.key_of store.old name.now ≡ Some key }
-    ensures { Gives S.Store store.old store.new (as_held S.Store store.new) result (text_rest text.now name.now) }
+    ensures { Gives S.Store store.old store.new (as_held S.Store store.new) result (text_rest (units_in (S.meaning store.old text.now)) name.now) }
 {
     if is_word(name, b"length") {
-        let length = length_of(text)?;
-        return hold_value(store, &length);
+        let length = length_of(store, text)?;
+        return hold_value(store, &count_value(length));
     }
-    look_up(alloc, store, base, name, key, intrinsic::STRING_PROTOTYPE)
-}
-
-// The length of a text. No text is so long that it would be no safe integer.
-fn length_of(text: &Units) -> Result<Value, NoMemory>
-    ensures value { IfOk result (λ value. value ≡ Int (pos (length text.now))) }
-    ensures place { IfOk result (λ value. (count : ℕ) → IsPlace count value) }
-{
-    let length = text.units().len();
-    if length < 1 << 53 {
-        Ok(Value::Int(length as i64))
-    } else {
-        Err(NoMemory)
-    }
+    look_up(
+        alloc,
+        store,
+        &Value::Undefined,
+        name,
+        key,
+        intrinsic::STRING_PROTOTYPE,
+    )
 }
 
 // Reads a property of a node: an element of an array, its length, and otherwise along the prototypes.

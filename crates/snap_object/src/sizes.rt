@@ -10,6 +10,7 @@ ghost use Rattle.spec_values.specs.Access.{entry_count, is_there, kind_of, size_
 ghost use Rattle.spec_values.specs.Operations.{elements_of};
 
 use crate::errors::type_error;
+use crate::texts::is_text;
 use snap_action::{Abrupt, hold_value};
 use snap_base::NoMemory;
 use snap_graph::{Kind, Value, intrinsic};
@@ -97,5 +98,8 @@ fn is_there<S: Store>(store: &S, node: u32, i: u32) -> Result<bool, NoMemory>
     ensures { IfOk result (λ there. TellsWhether (elements_of (S.view store.now).nodes node) i there) }
 {
     let element = store.element(node, i);
+    if is_text(store, &element) {
+        return Ok(true);
+    }
     Ok(!matches!(store.value(&element)?, Value::Empty))
 }

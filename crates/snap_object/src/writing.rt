@@ -19,6 +19,7 @@ use crate::indices::{element_of, integer_index};
 use crate::names::{name_of, named_key};
 use crate::outside::unspelled;
 use crate::search::{Found, find};
+use crate::texts::{base_of, named_by};
 use crate::words::{is_array, is_length, is_size, is_special};
 use snap_action::{Abrupt, Name, push_element, put_property, write_element};
 use snap_base::Stop;
@@ -40,7 +41,7 @@ pub fn set<S: Store>(
     requires value { IsValue (length (S.view store.old).nodes) (S.meaning store.old held.now) }
     ensures { Gives S.Store store.old store.new as_is result (set (S.meaning store.old base.now) key.now (S.meaning store.old held.now)) }
 {
-    let base = store.value(base)?;
+    let base = base_of(alloc, store, base)?;
     match (integer_index(key), base) {
         (Some(place), Value::Node(node)) => set_at(alloc, store, node, key, place, held),
         (_, base) => set_spelled(alloc, store, &base, key, held),
@@ -62,8 +63,31 @@ pub fn set_by_name<S: Store>(
     ensures gives { Gives S.Store store.old store.new as_is result (set (S.meaning store.old base.now) (Text name.old.text) (S.meaning store.old held.now)) }
     ensures kept { StaysKnown (S.key_of store.new) name.old name.new }
 {
-    let base = store.value(base)?;
+    let base = base_of(alloc, store, base)?;
     set_of(alloc, store, &base, name, held)
+}
+
+/// Writes a property of a base by a key that is held: exactly what `set` does by the key's value. The name is a place to work
+/// in: a key that is a text is copied there, which takes no memory where it has room.
+pub fn set_by_key<S: Store>(
+    alloc: Global,
+    store: &mut S,
+    base: &S::Held,
+    key: &S::Held,
+    name: &mut Name,
+    held: &S::Held,
+) -> Result<(), Abrupt<S::Held>>
+    requires base { S.owns store.old base.now }
+    requires key { S.owns store.old key.now }
+    requires owned { S.owns store.old held.now }
+    requires value { IsValue (length (S.view store.old).nodes) (S.meaning store.old held.now) }
+    ensures { Gives S.Store store.old store.new as_is result (set (S.meaning store.old base.now) (S.meaning store.old key.now) (S.meaning store.old held.now)) }
+{
+    if named_by(alloc, store, key, name)? {
+        return set_by_name(alloc, store, base, name, held);
+    }
+    let key = store.value(key)?;
+    set(alloc, store, base, &key, held)
 }
 
 // Writes to a node by an integer that is an array index: an element of an array.

@@ -28,3 +28,9 @@ abbrev pub Spells : Result SpelledText OperFault → Result (List ℕ) Stop → 
 Spells (Ok text) defined = defined ≡ Ok (text_in text)
 Spells (Err (Stopped stop)) defined = defined ≡ Err stop
 Spells (Err NoMemory) defined = Unit {0}
+
+-- the text that is answered is the one that is defined, or memory was refused
+abbrev pub IsText : Result (List ℕ) OperFault → Result (List ℕ) Stop → Type 0
+IsText (Ok text) defined = defined ≡ Ok text
+IsText (Err (Stopped stop)) defined = defined ≡ Err stop
+IsText (Err NoMemory) defined = Unit {0}

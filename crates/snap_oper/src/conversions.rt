@@ -52,7 +52,7 @@ pub(crate) fn number_of(value: &Value) -> Result<i64, Stop>
 }
 
 /// The truth value of a value (7.1.2, ToBoolean).
-pub(crate) fn truth_of(value: &Value) -> bool
+pub fn truth_of(value: &Value) -> bool
     ensures { result ≡ truth_of value.now }
 {
     match value {

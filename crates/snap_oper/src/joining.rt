@@ -2,7 +2,7 @@
 
 ghost use Rattle.std.specs.Prelude.{◌≡◌};
 ghost use Rattle.snap_oper.specs.Given.{Answers};
-ghost use Rattle.snap_oper.specs.Texts.{Spells, is_text, text_in};
+ghost use Rattle.snap_oper.specs.Texts.{IsText, Spells, is_text, text_in};
 ghost use Rattle.spec_values.specs.Conversions.{text_of};
 ghost use Rattle.spec_values.specs.Operators.{joined, joined_values};
 
@@ -53,16 +53,25 @@ impl SpelledText<'_> {
 fn spelled(alloc: Global, value: &Value) -> Result<SpelledText<'_>, OperFault>
     ensures { Spells result (text_of value.now) }
 {
-    let text = match value {
-        Value::Text(text) => return Ok(SpelledText::Standing(text)),
+    match value {
+        Value::Text(text) => Ok(SpelledText::Standing(text)),
+        _ => Ok(SpelledText::Made(text_of(alloc, value)?)),
+    }
+}
+
+/// The text of a value (7.1.17, ToString), copied. A node has none in this profile.
+pub fn text_of(alloc: Global, value: &Value) -> Result<Units, OperFault>
+    ensures { IsText result (text_of value.now) }
+{
+    Ok(match value {
+        Value::Text(text) => Units::of(alloc, text.units())?,
         Value::Undefined => StrView::One(b"undefined").copy(alloc)?,
         Value::Null => StrView::One(b"null").copy(alloc)?,
         Value::Bool(true) => StrView::One(b"true").copy(alloc)?,
         Value::Bool(false) => StrView::One(b"false").copy(alloc)?,
         Value::Int(number) => decimal(alloc, *number)?,
         Value::Node(_) | Value::Empty => return Err(OperFault::Stopped(Stop::NotInProfile)),
-    };
-    Ok(SpelledText::Made(text))
+    })
 }
 
 // The text of these units, where they are not too many. Memory is taken once, for the whole of it.

@@ -10,7 +10,9 @@ mod joining;
 mod laws;
 mod operators;
 
+pub use conversions::truth_of;
 pub use fault::OperFault;
+pub use joining::text_of;
 pub use laws::values_are_operands;
 pub use operators::{binary, unary};
 pub use spec_values::{BinaryOp, UnaryOp};

@@ -80,8 +80,8 @@ module _ (texts : List (List ℕ)) (nodes : List PlainNode) (number : ℕ) (node
   pub is_resource : IfSome (kind_of (nodes_in texts nodes) number) IsResource → (resource : ℕ) × (closed : Bool) × (node.kind ≡ kind.Resource resource closed)
   is_resource h = resource_kind node.kind (subst (λ (o : Option Kind). IfSome o IsResource) kind_here h)
 
-  pub node_within : (count : ℕ) → All (IsNodeWithin count) nodes → IsNodeWithin count node
-  node_within count all = subst (IsNodeWithin count) (sym at) (All-get_or (IsNodeWithin count) nodes number node below all)
+  pub node_within : (now : List (List ℕ)) → All (IsNodeWithin now) nodes → IsNodeWithin now node
+  node_within now all = subst (IsNodeWithin now) (sym at) (All-get_or (IsNodeWithin now) nodes number node below all)
 
   -- the node is written over
   pub is_changed : (new : PlainNode) (change : Node → Node) → node_in texts new ≡ change (node_in texts node) → nodes_in texts (set nodes number new) ≡ changed change (nodes_in texts nodes) number
@@ -90,8 +90,8 @@ module _ (texts : List (List ℕ)) (nodes : List PlainNode) (number : ℕ) (node
   pub keeps_lawful : (new : PlainNode) (change : Node → Node) → node_in texts new ≡ change (node_in texts node) → IsLawful (changed change (nodes_in texts nodes) number) → IsLawful (nodes_in texts (set nodes number new))
   keeps_lawful new change means lawful = subst IsLawful (sym (is_changed new change means)) lawful
 
-  pub keeps_within : (count : ℕ) (new : PlainNode) → All (IsNodeWithin count) nodes → (IsNodeWithin count node → IsNodeWithin count new) → All (IsNodeWithin count) (set nodes number new)
-  keeps_within count new all kept = All-set (IsNodeWithin count) nodes number new (kept (node_within count all)) all
+  pub keeps_within : (now : List (List ℕ)) (new : PlainNode) → All (IsNodeWithin now) nodes → (IsNodeWithin now node → IsNodeWithin now new) → All (IsNodeWithin now) (set nodes number new)
+  keeps_within now new all kept = All-set (IsNodeWithin now) nodes number new (kept (node_within now all)) all
 
   -- the node is written over by one that stands for the same
   pub is_same : (new : PlainNode) → node_in texts new ≡ node_in texts node → nodes_in texts (set nodes number new) ≡ nodes_in texts nodes

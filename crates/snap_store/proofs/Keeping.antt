@@ -1,7 +1,9 @@
 -- What is kept of a list, with one more.
-use Rattle.std.proofs.Common.{◌≡◌, ℕ, ◌≤◌, ◌<◌, ◌^◌, Bool, All, List, [], ◌∷◌, ◌++◌, length, map, sym, ap, subst, ◌∙◌, arith}
-use Rattle.std.proofs.lemmas.List.{length-append, length-map, map-append}
+use Rattle.std.proofs.Common.{◌≡◌, ℕ, ◌<◌, ◌^◌, Bool, All, List, [], ◌∷◌, ◌++◌, length, map, sym, ap, subst, ◌∙◌, arith}
+use Rattle.std.proofs.lemmas.List.{length-map, map-append}
 use Rattle.std.proofs.lemmas.List.Elements.{All-push, All-weaker}
+use Rattle.snap_arena.specs.Laws.{extends_still}
+use Rattle.snap_arena.specs.Texts.{Extends}
 use Rattle.snap_graph.specs.declared.kind.Kind.{Kind}
 use Rattle.snap_graph.specs.declared.node.Node.{Node}
 use Rattle.snap_graph.specs.declared.value.Property.{Property}
@@ -9,55 +11,50 @@ use Rattle.snap_graph.specs.declared.value.Value.{Value}
 use Rattle.snap_store.specs.declared.plain_node.PlainNode.{PlainNode}
 use Rattle.snap_store.specs.declared.plain_node.PlainProperty.{PlainProperty}
 use Rattle.snap_store.specs.declared.plain_node.PlainValue.{PlainValue}
-use Rattle.snap_store.specs.Following.{begins_still, more_within, value_still}
-use Rattle.snap_store.specs.Kept.{AreKept, AreNodesKept, ArePropertiesKept, Begins, IsKept, IsNodeKept}
+use Rattle.snap_store.specs.Following.{more_within, value_still}
+use Rattle.snap_store.specs.Kept.{AreKept, AreNodesKept, ArePropertiesKept, IsKept, IsNodeKept}
 use Rattle.snap_store.specs.Plain.{IsNodeWithin, IsWithin, node_in, property_in, value_in}
 use Rattle.snap_store.proofs.Growing.{map_agrees, node_more_within, node_still, property_still}
 
-module _ {A B : Type 0} (P : ℕ → A → Type 0) (f : List (List ℕ) → A → B)
-    (still : (texts rest : List (List ℕ)) (x : A) → P (length texts) x → f (texts ++ rest) x ≡ f texts x)
-    (more : (count n : ℕ) (x : A) → count ≤ n → P count x → P n x) where
+module _ {A B : Type 0} (P : List (List ℕ) → A → Type 0) (f : List (List ℕ) → A → B)
+    (still : (texts after : List (List ℕ)) (x : A) → Extends texts after → P texts x → f after x ≡ f texts x)
+    (more : (texts after : List (List ℕ)) (x : A) → Extends texts after → P texts x → P after x) where
   step : (texts after : List (List ℕ)) (done next : List A) (told : List B) (x : A) (y : B)
-      → All (P (length texts)) done × (map (f texts) done ≡ told) → Begins texts after → P (length after) x × (f after x ≡ y) → next ≡ done ++ x ∷ []
-      → All (P (length after)) next × (map (f after) next ≡ told ++ y ∷ [])
-  step texts after done next told x y before begins one pushed =
-      let le : length texts ≤ length after = omega (arith, ap length begins.1, length-append texts begins.0) in
-      let all = All-push (P (length after)) done x (All-weaker (P (length texts)) (P (length after)) (λ z. more (length texts) (length after) z le) done before.0) one.0 in
-      let same : map (f after) done ≡ told = map_agrees (f after) (f texts) (P (length texts)) (λ z h. ap (λ (ts : List (List ℕ)). f ts z) begins.1 ∙ still texts begins.0 z h) done before.0 ∙ before.1 in
+      → All (P texts) done × (map (f texts) done ≡ told) → Extends texts after → P after x × (f after x ≡ y) → next ≡ done ++ x ∷ []
+      → All (P after) next × (map (f after) next ≡ told ++ y ∷ [])
+  step texts after done next told x y before grown one pushed =
+      let all = All-push (P after) done x (All-weaker (P texts) (P after) (λ z. more texts after z grown) done before.0) one.0 in
+      let same : map (f after) done ≡ told = map_agrees (f after) (f texts) (P texts) (λ z. still texts after z grown) done before.0 ∙ before.1 in
       let means : map (f after) (done ++ x ∷ []) ≡ told ++ y ∷ [] = map-append (f after) done (x ∷ []) ∙ ap (λ (ys : List B). ys ++ f after x ∷ []) same ∙ ap (λ (z : B). told ++ z ∷ []) one.1 in
-      (subst (All (P (length after))) (sym pushed) all, ap (map (f after)) pushed ∙ means)
+      (subst (All (P after)) (sym pushed) all, ap (map (f after)) pushed ∙ means)
 
 pub values_step : (texts after : List (List ℕ)) (done next : List PlainValue) (told : List Value) (x : PlainValue) (y : Value)
-    → AreKept texts done told → Begins texts after → IsKept after x y → next ≡ done ++ x ∷ [] → AreKept after next (told ++ y ∷ [])
+    → AreKept texts done told → Extends texts after → IsKept after x y → next ≡ done ++ x ∷ [] → AreKept after next (told ++ y ∷ [])
 values_step = step IsWithin value_in value_still more_within
 
 pub properties_step : (texts after : List (List ℕ)) (done next : List PlainProperty) (told : List Property) (x : PlainProperty) (y : Property)
-    → ArePropertiesKept texts done told → Begins texts after → IsWithin (length after) x.value × (property_in after x ≡ y) → next ≡ done ++ x ∷ [] → ArePropertiesKept after next (told ++ y ∷ [])
-properties_step = step (λ count p. IsWithin count p.value) property_in property_still (λ count n p. more_within count n p.value)
+    → ArePropertiesKept texts done told → Extends texts after → IsWithin after x.value × (property_in after x ≡ y) → next ≡ done ++ x ∷ [] → ArePropertiesKept after next (told ++ y ∷ [])
+properties_step = step (λ texts p. IsWithin texts p.value) property_in property_still (λ texts after p. more_within texts after p.value)
 
 pub nodes_step : (texts after : List (List ℕ)) (done next : List PlainNode) (told : List Node) (x : PlainNode) (y : Node)
-    → AreNodesKept texts done told → Begins texts after → IsNodeKept after x y → next ≡ done ++ x ∷ [] → AreNodesKept after next (told ++ y ∷ [])
+    → AreNodesKept texts done told → Extends texts after → IsNodeKept after x y → next ≡ done ++ x ∷ [] → AreNodesKept after next (told ++ y ∷ [])
 nodes_step = step IsNodeWithin node_in node_still node_more_within
 
 -- what was kept stays so
-pub value_stays : (texts after : List (List ℕ)) (held : PlainValue) (value : Value) → IsKept texts held value → Begins texts after → IsKept after held value
-value_stays texts after held value kept begins = (
-  more_within (length texts) (length after) held (omega (arith, ap length begins.1, length-append texts begins.0)) kept.0,
-  ap (λ (ts : List (List ℕ)). value_in ts held) begins.1 ∙ value_still texts begins.0 held kept.0 ∙ kept.1,
+pub value_stays : (texts after : List (List ℕ)) (held : PlainValue) (value : Value) → IsKept texts held value → Extends texts after → IsKept after held value
+value_stays texts after held value kept grown = (more_within texts after held grown kept.0, value_still texts after held grown kept.0 ∙ kept.1)
+
+pub properties_stay : (texts after : List (List ℕ)) (kept : List PlainProperty) (properties : List Property) → ArePropertiesKept texts kept properties → Extends texts after → ArePropertiesKept after kept properties
+properties_stay texts after kept properties h grown = (
+  All-weaker (λ (p : PlainProperty). IsWithin texts p.value) (λ p. IsWithin after p.value) (λ p. more_within texts after p.value grown) kept h.0,
+  map_agrees (property_in after) (property_in texts) (λ p. IsWithin texts p.value) (λ p. property_still texts after p grown) kept h.0 ∙ h.1,
 )
 
-pub properties_stay : (texts after : List (List ℕ)) (kept : List PlainProperty) (properties : List Property) → ArePropertiesKept texts kept properties → Begins texts after → ArePropertiesKept after kept properties
-properties_stay texts after kept properties h begins =
-    let le : length texts ≤ length after = omega (arith, ap length begins.1, length-append texts begins.0) in (
-      All-weaker (λ (p : PlainProperty). IsWithin (length texts) p.value) (λ p. IsWithin (length after) p.value) (λ p. more_within (length texts) (length after) p.value le) kept h.0,
-      map_agrees (property_in after) (property_in texts) (λ p. IsWithin (length texts) p.value) (λ p w. ap (λ (ts : List (List ℕ)). property_in ts p) begins.1 ∙ property_still texts begins.0 p w) kept h.0 ∙ h.1,
-    )
-
 -- a node whose parts were kept one after another
-pub node_kept : (first next last : List (List ℕ)) (kept : PlainNode) (node : Node) → IsKept first kept.prototype node.prototype → Begins first next → ArePropertiesKept next kept.properties.items node.properties
-    → Begins next last → AreKept last kept.elements.items node.elements → kept.kind ≡ node.kind → kept.frozen ≡ node.frozen → length node.elements < 2 ^ 32 → IsNodeKept last kept node
+pub node_kept : (first next last : List (List ℕ)) (kept : PlainNode) (node : Node) → IsKept first kept.prototype node.prototype → Extends first next → ArePropertiesKept next kept.properties.items node.properties
+    → Extends next last → AreKept last kept.elements.items node.elements → kept.kind ≡ node.kind → kept.frozen ≡ node.frozen → length node.elements < 2 ^ 32 → IsNodeKept last kept node
 node_kept first next last kept node prototype one properties other elements own_kind frozen few =
-    let p = value_stays first last kept.prototype node.prototype prototype (begins_still first next last one other) in
+    let p = value_stays first last kept.prototype node.prototype prototype (extends_still first next last one other) in
     let ps = properties_stay next last kept.properties.items node.properties properties other in (
       record {
         prototype = p.0;

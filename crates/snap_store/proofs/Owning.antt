@@ -47,13 +47,13 @@ prototype_place nodes own (value.Text text) h = absurd h
 prototype_place nodes own (value.Node number) h = inr (slice_get_within nodes number h.0 h.1)
 prototype_place nodes own value.Empty h = absurd h
 
-module _ (texts : List (List ℕ)) (nodes : List Node) (node : PlainNode) (lawful : IsLawfulNode nodes (node_in texts node)) (within : IsNodeWithin (length texts) node) where
+module _ (texts : List (List ℕ)) (nodes : List Node) (node : PlainNode) (lawful : IsLawfulNode nodes (node_in texts node)) (within : IsNodeWithin texts node) where
   pub owns_prototype : IsOwn texts (length nodes) node.prototype
   owns_prototype = (within.prototype, prototype_place nodes node.kind (value_in texts node.prototype) lawful.prototype)
 
   pub owns_element : (k : ℕ) (held : PlainValue) → k < length node.elements.items → held ≡ get_or node.elements.items k held → IsOwn texts (length nodes) held
   owns_element k held below at = (
-    subst (IsWithin (length texts)) (sym at) (within.elements k held below),
+    subst (IsWithin texts) (sym at) (within.elements k held below),
     subst (λ (v : PlainValue). IsPlace (length nodes) (value_in texts v)) (sym at)
         (subst (IsPlace (length nodes)) (read_map (value_in texts) node.elements.items k held)
         (element_place (length nodes) node.kind (map (value_in texts) node.elements.items) lawful.elements k (value_in texts held) (omega (arith, length-map node.elements.items (value_in texts))))),
@@ -61,7 +61,7 @@ module _ (texts : List (List ℕ)) (nodes : List Node) (node : PlainNode) (lawfu
 
   pub owns_property : (k : ℕ) (property : PlainProperty) → k < length node.properties.items → property ≡ get_or node.properties.items k property → IsOwn texts (length nodes) property.value
   owns_property k property below at = (
-    subst (λ (p : PlainProperty). IsWithin (length texts) p.value) (sym at) (within.properties k property below),
+    subst (λ (p : PlainProperty). IsWithin texts p.value) (sym at) (within.properties k property below),
     inr (subst (λ (p : PlainProperty). IsValue (length nodes) (value_in texts p.value)) (sym at)
         (subst (λ (p : Property). IsValue (length nodes) p.value) (read_map (property_in texts) node.properties.items k property)
         (lawful.values k (property_in texts property) (omega (arith, length-map node.properties.items (property_in texts)))))),

@@ -1,11 +1,12 @@
 -- What a store's calls ask for and answer.
-use Rattle.std.specs.Prelude.{◌≡◌, ℕ, ◌&&◌, Bool, true, false, not, nat_le, nat_lt, List, length, map, slice_get, Option, is_some, IfSome, Result, Ok, Err}
+use Rattle.std.specs.Prelude.{◌≡◌, ℕ, ◌&&◌, Bool, true, false, not, nat_le, nat_lt, List, [], length, map, slice_get, Option, None, Some, is_some, unwrap_or, IfSome, Result, Ok, Err}
 use Rattle.std.specs.Option.{option_map}
 use Rattle.snap_base.specs.declared.limits.TheConstants.{MOST_ITEMS, MOST_PRIVATE_NODES, MOST_PROPERTIES}
 use Rattle.snap_graph.specs.declared.kind.Kind.{Kind}
 use Rattle.snap_graph.specs.declared.kind.Kind.TheVariants as kind
 use Rattle.snap_graph.specs.declared.node.Node.{Node}
 use Rattle.snap_graph.specs.declared.value.Value.{Value}
+use Rattle.snap_graph.specs.declared.value.Value.TheVariants as value
 use Rattle.snap_graph.specs.OwnKeys.{own_order}
 use Rattle.snap_store.specs.declared.fault.StoreFault.{StoreFault}
 use Rattle.snap_store.specs.declared.fault.StoreFault.TheVariants.{TooManyNodes, TooLong, NoMemory}
@@ -32,6 +33,20 @@ IsResource kind.Map = ⊥
 IsResource kind.Set = ⊥
 IsResource (kind.Resource number closed) = Unit {0}
 
+-- the units of a text; another value has none
+abbrev pub text_units : Value → Option (List ℕ)
+text_units value.Undefined = None
+text_units value.Null = None
+text_units (value.Bool b) = None
+text_units (value.Int z) = None
+text_units (value.Text text) = Some text
+text_units (value.Node node) = None
+text_units value.Empty = None
+
+-- the units of a text, or none
+abbrev pub units_in : Value → List ℕ
+units_in value = unwrap_or (text_units value) []
+
 -- a value may stand among the elements of a node
 abbrev pub MayStandIn : List Node → ℕ → Value → Type 0
 MayStandIn nodes number value = IfSome (kind_of nodes number) (λ kind. MayHold (length nodes) kind (is_frozen nodes number) value)
@@ -56,7 +71,7 @@ MakesWhere room (Err TooLong) = ⊥
 MakesWhere room (Err NoMemory) = Unit {0}
 
 -- refused with TooLong exactly where there would be too many, but for want of memory
-abbrev pub EndsWhere : Bool → Result Unit StoreFault → Type 0
+abbrev pub EndsWhere : {A : Type 0} → Bool → Result A StoreFault → Type 0
 EndsWhere full (Ok done) = full ≡ false
 EndsWhere full (Err TooManyNodes) = ⊥
 EndsWhere full (Err TooLong) = full ≡ true

@@ -1,6 +1,7 @@
 -- Plain heaps.
-use Rattle.std.specs.Prelude.{◌≡◌, ℕ, ◌≤◌, List, [], ◌++◌, length, slice_get}
+use Rattle.std.specs.Prelude.{ℕ, ◌≤◌, List, [], length, slice_get}
 use Rattle.std.specs.Option.{option_map_or}
+use Rattle.snap_arena.specs.Texts.{Extends}
 use Rattle.snap_graph.specs.declared.node.Node.{Node}
 use Rattle.snap_store.specs.declared.plain_heap.PlainHeap.{PlainHeap}
 use Rattle.snap_store.specs.declared.plain_node.PlainProperty.{PlainProperty}
@@ -9,7 +10,7 @@ use Rattle.snap_store.specs.Plain.{IsOwn, nodes_in}
 
 -- the nodes that a plain heap stands for
 abbrev pub heap_nodes : PlainHeap → List Node
-heap_nodes heap = nodes_in heap.texts.items heap.nodes.items
+heap_nodes heap = nodes_in heap.texts heap.nodes.items
 
 -- the properties of a node, as the heap keeps them
 abbrev pub heap_properties : PlainHeap → ℕ → List PlainProperty
@@ -17,10 +18,8 @@ heap_properties heap number = option_map_or (λ node. node.properties.items) (sl
 
 -- a kept value is the heap's own
 abbrev pub HeapOwns : PlainHeap → PlainValue → Type 0
-HeapOwns heap held = IsOwn heap.texts.items (length (heap_nodes heap)) held
+HeapOwns heap held = IsOwn heap.texts (length (heap_nodes heap)) held
 
 -- a heap has come of another: its texts begin with that one's, and it has as many nodes or more
 abbrev pub Follows : PlainHeap → PlainHeap → Type 0
-Follows first next =
-    ((rest : List (List ℕ)) × (next.texts.items ≡ first.texts.items ++ rest))
-    × (length first.nodes.items ≤ length next.nodes.items)
+Follows first next = Extends first.texts next.texts × (length first.nodes.items ≤ length next.nodes.items)

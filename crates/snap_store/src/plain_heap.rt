@@ -1,6 +1,7 @@
 //! The texts and nodes of a plain store.
+#![tactic(auto, using(snap_arena::specs::Laws::extends_itself))]
 
-ghost use Rattle.std.specs.Prelude.{All, length};
+ghost use Rattle.std.specs.Prelude.{All};
 ghost use Rattle.snap_graph.specs.Lawful.{IsLawful};
 ghost use Rattle.snap_store.specs.Plain.{IsNodeWithin, nodes_in, nodes_within-prop};
 ghost use Rattle.snap_store.specs.Unique.{IsLawful-prop};
@@ -11,6 +12,7 @@ use crate::plain_kept::kept_nodes;
 use crate::plain_node::{PlainNode, PlainProperty, PlainValue};
 use crate::plain_order::keys_in_order;
 use crate::plain_told::{told_graph, told_value};
+use snap_arena::{Arena, HeldText, JoinFault, TextView};
 use snap_base::{MOST_ITEMS, MOST_PRIVATE_NODES, MOST_PROPERTIES};
 use snap_graph::{Graph, Kind, Value};
 use snap_text::{Key, NoMemory, Units};
@@ -20,17 +22,20 @@ use std::alloc::Global;
 #[derive(Drop)]
 pub(crate) struct PlainHeap {
     alloc: Global,
-    texts: Vec<Units>,
+    texts: Arena,
     nodes: Vec<PlainNode>,
     private_nodes: u32,
-    ghost lawful: { IsLawful (nodes_in texts.items nodes.items) } by { IsLawful-prop _ },
-    ghost within: { All (IsNodeWithin (length texts.items)) nodes.items } by { nodes_within-prop _ _ },
+    ghost lawful: { IsLawful (nodes_in texts nodes.items) } by { IsLawful-prop _ },
+    ghost within: { All (IsNodeWithin texts) nodes.items } by { nodes_within-prop _ _ },
 }
 
 impl PlainHeap {
-    ghost use Rattle.std.specs.Prelude.{◌≡◌, ◌<◌, ◌+◌, ◌-◌, ◌++◌, ◌∷◌, [], ℕ, List, false, Option, None, Some, IfSome, IfOk, OnOk, OnErr, slice_get, slice_index_or};
+    ghost use Rattle.std.specs.Prelude.{◌≡◌, ◌<◌, ◌≤◌, ◌+◌, ◌-◌, ◌++◌, ◌∷◌, [], ℕ, List, false, Option, None, Some, IfSome, IfOk, OnOk, OnErr, drop, length, slice_get, take};
     ghost use Rattle.std.specs.Option.{option_map};
+    ghost use Rattle.snap_arena.specs.Texts.{IsHeld, is_too_long, text_in};
+    ghost use Rattle.snap_arena.specs.Views.{units};
     ghost use Rattle.snap_graph.specs.declared.kind.Kind.TheVariants.{Array, Native};
+    ghost use Rattle.snap_graph.specs.declared.value.Value.TheVariants.{Text};
     ghost use Rattle.snap_graph.specs.Intrinsics.{IsNative, intrinsics};
     ghost use Rattle.snap_graph.specs.Lawful.{IsElementKey, IsPrototype};
     ghost use Rattle.snap_graph.specs.Values.{IsPlace, IsValue};
@@ -62,7 +67,7 @@ impl PlainHeap {
         ensures keyed { IfOk result (λ heap. (key_of : List ℕ → Option Key) → AreNodesKeyed key_of heap.nodes.items) }
     {
         let Graph { nodes } = graph;
-        let mut texts = Vec::new(alloc);
+        let mut texts = Arena::new(alloc);
         let nodes = kept_nodes(alloc, &mut texts, nodes)?;
         Ok(PlainHeap {
             alloc,
@@ -76,29 +81,64 @@ impl PlainHeap {
     pub(crate) fn graph(&self) -> Result<Graph, NoMemory>
         ensures { IfOk result (λ graph. graph.nodes ≡ heap_nodes self.now) }
     {
-        told_graph(self.alloc, self.texts.as_slice(), self.nodes.as_slice())
+        told_graph(self.alloc, &self.texts, self.nodes.as_slice())
     }
 
-    // Puts a text behind the others and answers its place.
-    fn add_text(&mut self, text: &Units) -> Result<usize, NoMemory>
-        ensures place { IfOk result (λ place. place < length self.new.texts.items) }
-        ensures text { IfOk result (λ place. slice_index_or self.new.texts.items place [] ≡ text.now) }
+    // A text, held.
+    fn hold_text(&mut self, text: &Units) -> Result<HeldText, NoMemory>
+        ensures held { IfOk result (IsHeld self.new.texts) }
+        ensures text { IfOk result (λ held. text_in self.new.texts held ≡ text.now) }
         ensures nodes { heap_nodes self.new ≡ heap_nodes self.old }
         ensures private_nodes { self.new.private_nodes ≡ self.old.private_nodes }
         ensures keyed { (key_of : List ℕ → Option Key) → AreNodesKeyed key_of self.old.nodes.items → AreNodesKeyed key_of self.new.nodes.items }
         ensures later { Follows self.old self.new }
     {
-        let units = Units::of(self.alloc, text.units())?;
-        let place = self.texts.len();
-        self.texts.push(units)?;
-        Ok(place)
+        self.texts.hold(text.units())
+    }
+
+    // A view of a text that is held.
+    pub(crate) fn text(&self, held: HeldText) -> TextView<'_>
+        requires { IsHeld self.now.texts held }
+        ensures { units result ≡ text_in self.now.texts held }
+    {
+        self.texts.view(held)
+    }
+
+    // Two texts, one behind the other.
+    pub(crate) fn join(&mut self, left: HeldText, right: HeldText) -> Result<PlainValue, StoreFault>
+        requires left { IsHeld self.old.texts left }
+        requires right { IsHeld self.old.texts right }
+        ensures fault { EndsWhere (is_too_long (text_in self.old.texts left) (text_in self.old.texts right)) result }
+        ensures owned { IfOk result (HeapOwns self.new) }
+        ensures meaning { IfOk result (λ held. value_in self.new.texts held ≡ Text (text_in self.old.texts left ++ text_in self.old.texts right)) }
+        ensures nodes { heap_nodes self.new ≡ heap_nodes self.old }
+        ensures private_nodes { self.new.private_nodes ≡ self.old.private_nodes }
+        ensures keyed { (key_of : List ℕ → Option Key) → AreNodesKeyed key_of self.old.nodes.items → AreNodesKeyed key_of self.new.nodes.items }
+        ensures later { Follows self.old self.new }
+    {
+        match self.texts.join(left, right) {
+            Ok(held) => Ok(PlainValue::Text(held)),
+            Err(JoinFault::TooLong) => Err(StoreFault::TooLong),
+            Err(JoinFault::NoMemory) => Err(StoreFault::NoMemory),
+        }
+    }
+
+    // The part of a text from one place to another.
+    pub(crate) fn part(&self, held: HeldText, from: u32, to: u32) -> PlainValue
+        requires held { IsHeld self.now.texts held }
+        requires order { from ≤ to }
+        requires within { to ≤ length (text_in self.now.texts held) }
+        ensures owned { HeapOwns self.now result }
+        ensures meaning { value_in self.now.texts result ≡ Text (take (to - from) (drop from (text_in self.now.texts held))) }
+    {
+        PlainValue::Text(self.texts.part(held, from, to))
     }
 
     // A value, held.
     pub(crate) fn hold(&mut self, value: &Value) -> Result<PlainValue, NoMemory>
         requires { IsPlace (length (heap_nodes self.old)) value.now }
         ensures owned { IfOk result (HeapOwns self.new) }
-        ensures meaning { IfOk result (λ held. value_in self.new.texts.items held ≡ value.now) }
+        ensures meaning { IfOk result (λ held. value_in self.new.texts held ≡ value.now) }
         ensures nodes { heap_nodes self.new ≡ heap_nodes self.old }
         ensures private_nodes { self.new.private_nodes ≡ self.old.private_nodes }
         ensures keyed { (key_of : List ℕ → Option Key) → AreNodesKeyed key_of self.old.nodes.items → AreNodesKeyed key_of self.new.nodes.items }
@@ -109,7 +149,7 @@ impl PlainHeap {
             Value::Null => PlainValue::Null,
             Value::Bool(truth) => PlainValue::Bool(*truth),
             Value::Int(number) => PlainValue::Int(*number),
-            Value::Text(text) => PlainValue::Text(self.add_text(text)?),
+            Value::Text(text) => PlainValue::Text(self.hold_text(text)?),
             Value::Node(node) => PlainValue::Node(*node),
             Value::Empty => PlainValue::Empty,
         })
@@ -118,21 +158,21 @@ impl PlainHeap {
     // The value that a held value stands for.
     pub(crate) fn value(&self, held: PlainValue) -> Result<Value, NoMemory>
         requires { HeapOwns self.now held }
-        ensures { IfOk result (λ value. value ≡ value_in self.now.texts.items held) }
+        ensures { IfOk result (λ value. value ≡ value_in self.now.texts held) }
     {
-        told_value(self.alloc, self.texts.as_slice(), held)
+        told_value(self.alloc, &self.texts, held)
     }
 
     // Makes a node with nothing in it and answers its number. Where 2^32 nodes have one, the answer is want
     // of memory.
     pub(crate) fn make(&mut self, kind: Kind, prototype: PlainValue) -> Result<u32, StoreFault>
         requires owned { HeapOwns self.old prototype }
-        requires prototype { IsPrototype (heap_nodes self.old) kind (value_in self.old.texts.items prototype) }
+        requires prototype { IsPrototype (heap_nodes self.old) kind (value_in self.old.texts prototype) }
         requires native { (number : ℕ) → kind ≡ Native number → IsNative number }
         ensures fault { MakesWhere (has_room self.old.private_nodes) result }
         ensures number { IfOk result (λ number. number ≡ length (heap_nodes self.old)) }
         ensures nodes { OnOk result (heap_nodes self.new
-            ≡ heap_nodes self.old ++ new_node kind (value_in self.old.texts.items prototype) ∷ []) }
+            ≡ heap_nodes self.old ++ new_node kind (value_in self.old.texts prototype) ∷ []) }
         ensures private_nodes { OnOk result (self.new.private_nodes ≡ self.old.private_nodes + 1) }
         ensures err { OnErr result ((heap_nodes self.new ≡ heap_nodes self.old) × (self.new.private_nodes ≡ self.old.private_nodes)) }
         ensures keyed { (key_of : List ℕ → Option Key) → AreNodesKeyed key_of self.old.nodes.items → AreNodesKeyed key_of self.new.nodes.items }
@@ -169,7 +209,7 @@ impl PlainHeap {
     pub(crate) fn prototype(&self, node: u32) -> PlainValue
         requires { node < length (heap_nodes self.now) }
         ensures owned { HeapOwns self.now result }
-        ensures meaning { prototype_of (heap_nodes self.now) node ≡ Some (value_in self.now.texts.items result) }
+        ensures meaning { prototype_of (heap_nodes self.now) node ≡ Some (value_in self.now.texts result) }
     {
         self.nodes[node as usize].prototype
     }
@@ -220,7 +260,7 @@ impl PlainHeap {
         requires place { place < length (heap_properties self.now node) }
         ensures owned { HeapOwns self.now result }
         ensures meaning { (key : List ℕ) → IsPlaceOf key (heap_properties self.now node) (Some place)
-            → own_value (heap_nodes self.now) node key ≡ Some (value_in self.now.texts.items result) }
+            → own_value (heap_nodes self.now) node key ≡ Some (value_in self.now.texts result) }
     {
         self.nodes[node as usize].properties[place].value
     }
@@ -232,9 +272,9 @@ impl PlainHeap {
         requires place { (key : List ℕ) × IsPlaceOf key (heap_properties self.old node) (Some place)
             × (kind_of (heap_nodes self.old) node ≡ Some Array → IsElementKey key → ⊥) }
         requires owned { HeapOwns self.old held }
-        requires value { IsValue (length (heap_nodes self.old)) (value_in self.old.texts.items held) }
+        requires value { IsValue (length (heap_nodes self.old)) (value_in self.old.texts held) }
         ensures nodes { (key : List ℕ) → IsPlaceOf key (heap_properties self.old node) (Some place)
-            → heap_nodes self.new ≡ with_own (heap_nodes self.old) node key (value_in self.old.texts.items held) }
+            → heap_nodes self.new ≡ with_own (heap_nodes self.old) node key (value_in self.old.texts held) }
         ensures private_nodes { self.new.private_nodes ≡ self.old.private_nodes }
         ensures keyed { (key_of : List ℕ → Option Key) → AreNodesKeyed key_of self.old.nodes.items → AreNodesKeyed key_of self.new.nodes.items }
         ensures later { Follows self.old self.new }
@@ -255,9 +295,9 @@ impl PlainHeap {
         requires place { IsPlaceOf key (heap_properties self.old node) None }
         requires element { kind_of (heap_nodes self.old) node ≡ Some Array → IsElementKey key → ⊥ }
         requires owned { HeapOwns self.old held }
-        requires value { IsValue (length (heap_nodes self.old)) (value_in self.old.texts.items held) }
+        requires value { IsValue (length (heap_nodes self.old)) (value_in self.old.texts held) }
         ensures fault { EndsWhere (is_full (heap_nodes self.old) node key) result }
-        ensures nodes { OnOk result (heap_nodes self.new ≡ with_own (heap_nodes self.old) node key (value_in self.old.texts.items held)) }
+        ensures nodes { OnOk result (heap_nodes self.new ≡ with_own (heap_nodes self.old) node key (value_in self.old.texts held)) }
         ensures err { OnErr result (heap_nodes self.new ≡ heap_nodes self.old) }
         ensures private_nodes { self.new.private_nodes ≡ self.old.private_nodes }
         ensures keyed { (key_of : List ℕ → Option Key) → key_of key ≡ Some known → AreNodesKeyed key_of self.old.nodes.items → AreNodesKeyed key_of self.new.nodes.items }
@@ -305,7 +345,7 @@ impl PlainHeap {
         requires number { node < length (heap_nodes self.now) }
         requires place { i < length (elements_of (heap_nodes self.now) node) }
         ensures owned { HeapOwns self.now result }
-        ensures meaning { slice_get (elements_of (heap_nodes self.now) node) i ≡ Some (value_in self.now.texts.items result) }
+        ensures meaning { slice_get (elements_of (heap_nodes self.now) node) i ≡ Some (value_in self.now.texts result) }
     {
         self.nodes[node as usize].elements[i as usize]
     }
@@ -315,8 +355,8 @@ impl PlainHeap {
         requires number { node < length (heap_nodes self.old) }
         requires place { i < length (elements_of (heap_nodes self.old) node) }
         requires owned { HeapOwns self.old held }
-        requires value { MayStandIn (heap_nodes self.old) node (value_in self.old.texts.items held) }
-        ensures nodes { heap_nodes self.new ≡ with_element (heap_nodes self.old) node i (value_in self.old.texts.items held) }
+        requires value { MayStandIn (heap_nodes self.old) node (value_in self.old.texts held) }
+        ensures nodes { heap_nodes self.new ≡ with_element (heap_nodes self.old) node i (value_in self.old.texts held) }
         ensures private_nodes { self.new.private_nodes ≡ self.old.private_nodes }
         ensures keyed { (key_of : List ℕ → Option Key) → AreNodesKeyed key_of self.old.nodes.items → AreNodesKeyed key_of self.new.nodes.items }
         ensures later { Follows self.old self.new }
@@ -328,9 +368,9 @@ impl PlainHeap {
     pub(crate) fn push_element(&mut self, node: u32, held: PlainValue) -> Result<(), StoreFault>
         requires number { node < length (heap_nodes self.old) }
         requires owned { HeapOwns self.old held }
-        requires value { MayStandIn (heap_nodes self.old) node (value_in self.old.texts.items held) }
+        requires value { MayStandIn (heap_nodes self.old) node (value_in self.old.texts held) }
         ensures fault { EndsWhere (is_long (heap_nodes self.old) node) result }
-        ensures nodes { OnOk result (heap_nodes self.new ≡ with_more (heap_nodes self.old) node (value_in self.old.texts.items held)) }
+        ensures nodes { OnOk result (heap_nodes self.new ≡ with_more (heap_nodes self.old) node (value_in self.old.texts held)) }
         ensures err { OnErr result (heap_nodes self.new ≡ heap_nodes self.old) }
         ensures private_nodes { self.new.private_nodes ≡ self.old.private_nodes }
         ensures keyed { (key_of : List ℕ → Option Key) → AreNodesKeyed key_of self.old.nodes.items → AreNodesKeyed key_of self.new.nodes.items }
@@ -349,7 +389,7 @@ impl PlainHeap {
         requires kind { kind_of (heap_nodes self.old) node ≡ Some Array }
         requires frozen { is_frozen (heap_nodes self.old) node ≡ false }
         ensures owned { IfSome result (HeapOwns self.new) }
-        ensures meaning { option_map (value_in self.new.texts.items) result
+        ensures meaning { option_map (value_in self.new.texts) result
             ≡ slice_get (elements_of (heap_nodes self.old) node) (length (elements_of (heap_nodes self.old) node) - 1) }
         ensures nodes { heap_nodes self.new ≡ with_fewer (heap_nodes self.old) node }
         ensures private_nodes { self.new.private_nodes ≡ self.old.private_nodes }

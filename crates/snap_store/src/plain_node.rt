@@ -3,10 +3,11 @@
 ghost use Rattle.std.specs.Prelude.{◌≡◌, ◌<◌, ◌-◌, ◌++◌, ◌∷◌, [], ℕ, List, AllPairs, Option, None, Some, OnOk, OnErr, ◌≢◌, length, slice_set, slice_get, take};
 ghost use Rattle.spec_values.specs.Operations.{closed_kind};
 
+use snap_arena::HeldText;
 use snap_graph::Kind;
 use snap_text::{Key, NoMemory, Units};
 
-/// A value as a plain store keeps it: a text is known by its place in the store's list of texts.
+/// A value as a plain store keeps it: the units of a text stand in the store's arena.
 #[derive(Clone, Copy, Debug, PartialEq, Eq)]
 pub enum PlainValue {
     /// undefined
@@ -17,8 +18,8 @@ pub enum PlainValue {
     Bool(bool),
     /// A safe integer.
     Int(i64),
-    /// The place of a text.
-    Text(usize),
+    /// A text of the arena.
+    Text(HeldText),
     /// The number of a node.
     Node(u32),
     /// The mark of an empty place.
@@ -52,7 +53,7 @@ impl PlainNode {
     // Freezes the node.
     pub(crate) fn freeze(&mut self)
         ensures means { (texts : List (List ℕ)) → node_in texts self.new ≡ frozen_node (node_in texts self.old) }
-        ensures within { (count : ℕ) → IsNodeWithin count self.old → IsNodeWithin count self.new }
+        ensures within { (texts : List (List ℕ)) → IsNodeWithin texts self.old → IsNodeWithin texts self.new }
         ensures keyed { (key_of : List ℕ → Option Key) → IsNodeKeyed key_of self.old → IsNodeKeyed key_of self.new }
     {
         self.frozen = true;
@@ -61,7 +62,7 @@ impl PlainNode {
     // Closes a resource.
     pub(crate) fn close(&mut self)
         ensures means { (texts : List (List ℕ)) → node_in texts self.new ≡ closed_node (node_in texts self.old) }
-        ensures within { (count : ℕ) → IsNodeWithin count self.old → IsNodeWithin count self.new }
+        ensures within { (texts : List (List ℕ)) → IsNodeWithin texts self.old → IsNodeWithin texts self.new }
         ensures keyed { (key_of : List ℕ → Option Key) → IsNodeKeyed key_of self.old → IsNodeKeyed key_of self.new }
     {
         self.kind = closed(self.kind);
@@ -72,7 +73,7 @@ impl PlainNode {
         requires { place < length self.old.properties.items }
         ensures means { (texts : List (List ℕ)) (key : List ℕ) → IsPlaceOf key self.old.properties.items (Some place)
             → node_in texts self.new ≡ with_properties (put_under key (value_in texts value)) (node_in texts self.old) }
-        ensures within { (count : ℕ) → IsNodeWithin count self.old → IsWithin count value → IsNodeWithin count self.new }
+        ensures within { (texts : List (List ℕ)) → IsNodeWithin texts self.old → IsWithin texts value → IsNodeWithin texts self.new }
         ensures keyed { (key_of : List ℕ → Option Key) → IsNodeKeyed key_of self.old → IsNodeKeyed key_of self.new }
     {
         self.properties[place].value = value;
@@ -88,7 +89,7 @@ impl PlainNode {
         ensures means { OnOk result ((texts : List (List ℕ)) → IsPlaceOf key self.old.properties.items None
             → node_in texts self.new ≡ with_properties (put_under key (value_in texts value)) (node_in texts self.old)) }
         ensures err { OnErr result ((texts : List (List ℕ)) → node_in texts self.new ≡ node_in texts self.old) }
-        ensures within { (count : ℕ) → IsNodeWithin count self.old → IsWithin count value → IsNodeWithin count self.new }
+        ensures within { (texts : List (List ℕ)) → IsNodeWithin texts self.old → IsWithin texts value → IsNodeWithin texts self.new }
         ensures keyed { (key_of : List ℕ → Option Key) → key_of key ≡ Some known → IsNodeKeyed key_of self.old → IsNodeKeyed key_of self.new }
     {
         let known = Some(known);
@@ -102,7 +103,7 @@ impl PlainNode {
         ensures means { (texts : List (List ℕ)) (key : List ℕ) → IsPlaceOf key self.old.properties.items (Some place)
             → AllPairs (λ one other. one.key ≢ other.key) self.old.properties.items
             → node_in texts self.new ≡ with_properties (remove_under key) (node_in texts self.old) }
-        ensures within { (count : ℕ) → IsNodeWithin count self.old → IsNodeWithin count self.new }
+        ensures within { (texts : List (List ℕ)) → IsNodeWithin texts self.old → IsNodeWithin texts self.new }
         ensures keyed { (key_of : List ℕ → Option Key) → IsNodeKeyed key_of self.old → IsNodeKeyed key_of self.new }
     {
         let _property = self.properties.remove(place);
@@ -114,7 +115,7 @@ impl PlainNode {
         ensures means { (texts : List (List ℕ))
             → node_in texts self.new
             ≡ with_elements (λ elements. slice_set elements place (value_in texts value)) (node_in texts self.old) }
-        ensures within { (count : ℕ) → IsNodeWithin count self.old → IsWithin count value → IsNodeWithin count self.new }
+        ensures within { (texts : List (List ℕ)) → IsNodeWithin texts self.old → IsWithin texts value → IsNodeWithin texts self.new }
         ensures keyed { (key_of : List ℕ → Option Key) → IsNodeKeyed key_of self.old → IsNodeKeyed key_of self.new }
     {
         self.elements[place] = value;
@@ -125,7 +126,7 @@ impl PlainNode {
         ensures means { OnOk result ((texts : List (List ℕ))
             → node_in texts self.new ≡ with_elements (λ elements. elements ++ value_in texts value ∷ []) (node_in texts self.old)) }
         ensures err { OnErr result ((texts : List (List ℕ)) → node_in texts self.new ≡ node_in texts self.old) }
-        ensures within { (count : ℕ) → IsNodeWithin count self.old → IsWithin count value → IsNodeWithin count self.new }
+        ensures within { (texts : List (List ℕ)) → IsNodeWithin texts self.old → IsWithin texts value → IsNodeWithin texts self.new }
         ensures keyed { (key_of : List ℕ → Option Key) → IsNodeKeyed key_of self.old → IsNodeKeyed key_of self.new }
     {
         if self.elements.len() >= u32::MAX as usize {
@@ -140,7 +141,7 @@ impl PlainNode {
         ensures means { (texts : List (List ℕ))
             → node_in texts self.new ≡ with_elements (λ elements. take (length elements - 1) elements) (node_in texts self.old) }
         ensures taken { result ≡ slice_get self.old.elements.items (length self.old.elements.items - 1) }
-        ensures within { (count : ℕ) → IsNodeWithin count self.old → IsNodeWithin count self.new }
+        ensures within { (texts : List (List ℕ)) → IsNodeWithin texts self.old → IsNodeWithin texts self.new }
         ensures keyed { (key_of : List ℕ → Option Key) → IsNodeKeyed key_of self.old → IsNodeKeyed key_of self.new }
     {
         self.elements.pop()

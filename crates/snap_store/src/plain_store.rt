@@ -1,4 +1,5 @@
 //! Stores that keep plain lists.
+#![tactic(auto, using(snap_arena::specs::Laws::extends_itself))]
 
 ghost use Rattle.snap_text.specs.Keys.{Keeps};
 ghost use Rattle.snap_store.specs.Keyed.{AreNodesKeyed, AreNodesKeyed-prop};
@@ -10,12 +11,13 @@ use crate::plain_heap::PlainHeap;
 use crate::plain_node::PlainValue;
 use crate::plain_place::place_of;
 use crate::store::Store;
+use snap_arena::TextView;
 use snap_base::NoMemory;
 use snap_graph::{Graph, Kind, Value};
 use snap_text::{Key, Keys, Units};
 use std::alloc::Global;
 
-/// A store that keeps plain lists: nodes whose values are held ones, and a list of texts that only grows.
+/// A store that keeps plain lists: nodes whose values are held ones, and texts in buffers that only grow.
 /// A property is looked up by a scan of its node alone, which compares keys where both are known.
 #[derive(Drop)]
 pub struct PlainStore<K: Keys> {
@@ -90,14 +92,15 @@ impl<K: Keys> Store for PlainStore<K> {
     type Held = PlainValue;
 
     ghost use Rattle.std.proofs.Common.{◌∙◌, refl};
-    ghost use Rattle.snap_store.specs.Following.{begins_itself, begins_still, fewer_still, meaning_after, not_fewer, own_after};
+    ghost use Rattle.snap_arena.specs.Laws.{extends_itself, extends_still};
+    ghost use Rattle.snap_store.specs.Following.{fewer_still, not_fewer, own_after, value_still};
     ghost use Rattle.snap_store.specs.PlainHeaps.{Follows, HeapOwns, heap_nodes};
 
     ghost view = { λ store. record { nodes = heap_nodes store.heap; private_nodes = store.heap.private_nodes; log = K.log store.keys } };
 
     ghost owns = { λ store held. HeapOwns store.heap held };
 
-    ghost meaning = { λ store held. value_in store.heap.texts.items held };
+    ghost meaning = { λ store held. value_in store.heap.texts held };
 
     ghost key_of = { λ store. K.key_of store.keys };
 
@@ -118,6 +121,27 @@ impl<K: Keys> Store for PlainStore<K> {
         match self.heap.value(*held) {
             Ok(value) => Ok(value),
             Err(_) => Err(NoMemory),
+        }
+    }
+
+    fn text(&self, held: &PlainValue) -> Option<TextView<'_>> {
+        match held {
+            PlainValue::Text(text) => Some(self.heap.text(*text)),
+            _ => None,
+        }
+    }
+
+    fn join(&mut self, left: &PlainValue, right: &PlainValue) -> Result<PlainValue, StoreFault> {
+        match (left, right) {
+            (PlainValue::Text(left), PlainValue::Text(right)) => self.heap.join(*left, *right),
+            _ => unreachable!(),
+        }
+    }
+
+    fn part(&mut self, held: &PlainValue, from: u32, to: u32) -> Result<PlainValue, NoMemory> {
+        match held {
+            PlainValue::Text(text) => Ok(self.heap.part(*text, from, to)),
+            _ => unreachable!(),
         }
     }
 
@@ -237,14 +261,14 @@ impl<K: Keys> Store for PlainStore<K> {
     ghost one_text = { λ store. K.one_text store.keys };
 
     ghost at_once = { λ store. (
-      (begins_itself store.heap.texts.items, not_fewer (length store.heap.nodes.items)),
+      (extends_itself store.heap.texts, not_fewer (length store.heap.nodes.items)),
       λ text key given. given,
       λ text. refl,
     ) };
 
     ghost later_still = { λ first next last one other. (
       (
-        begins_still first.heap.texts.items next.heap.texts.items last.heap.texts.items one.0.0 other.0.0,
+        extends_still first.heap.texts next.heap.texts last.heap.texts one.0.0 other.0.0,
         fewer_still (length first.heap.nodes.items) (length next.heap.nodes.items) (length last.heap.nodes.items) one.0.1 other.0.1,
       ),
       λ text key given. other.1 text key (one.1 text key given),
@@ -252,11 +276,11 @@ impl<K: Keys> Store for PlainStore<K> {
     ) };
 
     ghost stays_owned = { λ first next held later owned.
-        own_after first.heap.texts.items next.heap.texts.items first.heap.nodes.items next.heap.nodes.items
+        own_after first.heap.texts next.heap.texts first.heap.nodes.items next.heap.nodes.items
         held later.0.0 later.0.1 owned };
 
     ghost keeps_meaning = { λ first next held later owned.
-        meaning_after first.heap.texts.items next.heap.texts.items held later.0.0 owned.0 };
+        value_still first.heap.texts next.heap.texts held later.0.0 owned.0 };
 
     ghost keeps_keys = { λ first next later. later.1 };
 

@@ -4,17 +4,14 @@ ghost use Rattle.std.specs.Prelude.{◌≡◌, All, IfOk, length, map};
 ghost use Rattle.snap_store.specs.Plain.{IsNodeWithin, IsWithin, node_in, nodes_in, property_in, value_in};
 
 use crate::plain_node::{PlainNode, PlainProperty, PlainValue};
+use snap_arena::Arena;
 use snap_graph::{Graph, Items, Node, Property, Value};
 use snap_text::{NoMemory, Units};
 use std::alloc::Global;
 
 // A value, copied.
-pub(crate) fn told_value(
-    alloc: Global,
-    texts: &[Units],
-    held: PlainValue,
-) -> Result<Value, NoMemory>
-    requires { IsWithin (length texts.now) held }
+pub(crate) fn told_value(alloc: Global, texts: &Arena, held: PlainValue) -> Result<Value, NoMemory>
+    requires { IsWithin texts.now held }
     ensures { IfOk result (λ value. value ≡ value_in texts.now held) }
 {
     Ok(match held {
@@ -22,7 +19,7 @@ pub(crate) fn told_value(
         PlainValue::Null => Value::Null,
         PlainValue::Bool(truth) => Value::Bool(truth),
         PlainValue::Int(number) => Value::Int(number),
-        PlainValue::Text(place) => Value::Text(Units::of(alloc, texts[place].units())?),
+        PlainValue::Text(held) => Value::Text(texts.view(held).copy(alloc)?),
         PlainValue::Node(node) => Value::Node(node),
         PlainValue::Empty => Value::Empty,
     })
@@ -30,10 +27,10 @@ pub(crate) fn told_value(
 
 fn told_values(
     alloc: Global,
-    texts: &[Units],
+    texts: &Arena,
     values: &[PlainValue],
 ) -> Result<Items<Value>, NoMemory>
-    requires { All (IsWithin (length texts.now)) values.now }
+    requires { All (IsWithin texts.now) values.now }
     ensures { IfOk result (λ told. told ≡ map (value_in texts.now) values.now) }
 {
     let mut told = Vec::new(alloc);
@@ -45,10 +42,10 @@ fn told_values(
 
 fn told_properties(
     alloc: Global,
-    texts: &[Units],
+    texts: &Arena,
     properties: &[PlainProperty],
 ) -> Result<Items<Property>, NoMemory>
-    requires { All (λ property. IsWithin (length texts.now) property.value) properties.now }
+    requires { All (λ property. IsWithin texts.now property.value) properties.now }
     ensures { IfOk result (λ told. told ≡ map (property_in texts.now) properties.now) }
 {
     let mut told = Vec::new(alloc);
@@ -60,8 +57,8 @@ fn told_properties(
     Ok(Items::from_vec(told))
 }
 
-fn told_node(alloc: Global, texts: &[Units], node: &PlainNode) -> Result<Node, NoMemory>
-    requires { IsNodeWithin (length texts.now) node.now }
+fn told_node(alloc: Global, texts: &Arena, node: &PlainNode) -> Result<Node, NoMemory>
+    requires { IsNodeWithin texts.now node.now }
     ensures { IfOk result (λ told. told ≡ node_in texts.now node.now) }
 {
     Ok(Node {
@@ -76,10 +73,10 @@ fn told_node(alloc: Global, texts: &[Units], node: &PlainNode) -> Result<Node, N
 // The nodes, copied.
 pub(crate) fn told_graph(
     alloc: Global,
-    texts: &[Units],
+    texts: &Arena,
     nodes: &[PlainNode],
 ) -> Result<Graph, NoMemory>
-    requires { All (IsNodeWithin (length texts.now)) nodes.now }
+    requires { All (IsNodeWithin texts.now) nodes.now }
     ensures { IfOk result (λ told. told.nodes ≡ nodes_in texts.now nodes.now) }
 {
     let mut told = Vec::new(alloc);

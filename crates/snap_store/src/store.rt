@@ -1,14 +1,17 @@
 //! Stores of heaps, whoever keeps them.
 
-ghost use Rattle.std.specs.Prelude.{◌≡◌, ◌<◌, ◌-◌, ℕ, List, Bool, false, Option, Some, is_some, IsOk, IsSome, IfOk, IfSome, OnOk, OnErr, length, slice_get};
+ghost use Rattle.std.specs.Prelude.{◌≡◌, ◌<◌, ◌≤◌, ◌-◌, ◌++◌, ℕ, List, Bool, false, Option, Some, is_some, IsOk, IsSome, IfOk, IfSome, OnOk, OnErr, drop, length, slice_get, take};
 ghost use Rattle.std.specs.Bool.{OnFalse, OnTrue};
 ghost use Rattle.std.specs.Option.{option_map};
+ghost use Rattle.snap_arena.specs.Texts.{is_too_long};
+ghost use Rattle.snap_arena.specs.Views.{units};
 ghost use Rattle.snap_graph.specs.declared.kind.Kind.TheVariants.{Array, Native};
 ghost use Rattle.snap_graph.specs.declared.value.Value.{Value};
+ghost use Rattle.snap_graph.specs.declared.value.Value.TheVariants.{Text};
 ghost use Rattle.snap_graph.specs.Intrinsics.{IsNative};
 ghost use Rattle.snap_graph.specs.Lawful.{IsElementKey, IsLawful, IsPrototype};
 ghost use Rattle.snap_graph.specs.Values.{IsPlace, IsValue};
-ghost use Rattle.snap_store.specs.Calls.{EndsWhere, IsResource, MakesWhere, MayStandIn, has_room, is_full, is_long, own_keys_of, prototype_of};
+ghost use Rattle.snap_store.specs.Calls.{EndsWhere, IsResource, MakesWhere, MayStandIn, has_room, is_full, is_long, own_keys_of, prototype_of, text_units, units_in};
 ghost use Rattle.snap_store.specs.View.{View, with_logged, with_made, with_nodes};
 ghost use Rattle.snap_text.specs.declared.key.Key.{Key};
 ghost use Rattle.snap_text.specs.Keys.{HasText, Keeps};
@@ -16,6 +19,7 @@ ghost use Rattle.spec_values.specs.Access.{kind_of};
 ghost use Rattle.spec_values.specs.Operations.{elements_of, is_frozen, own_value, with_closed, with_element, with_fewer, with_frozen, with_more, with_own, without_own};
 
 use crate::fault::StoreFault;
+use snap_arena::TextView;
 use snap_base::NoMemory;
 use snap_graph::{Kind, Value};
 use snap_text::{Key, Units};
@@ -58,6 +62,34 @@ pub trait Store {
     fn value(&self, held: &Self::Held) -> Result<Value, NoMemory>
         requires { owns self.now held.now }
         ensures { IfOk result (λ value. value ≡ meaning self.now held.now) };
+
+    /// A view of a text that is held; nothing where what is held is no text. Nothing is copied.
+    fn text(&self, held: &Self::Held) -> Option<TextView<'_>>
+        requires { owns self.now held.now }
+        ensures { option_map units result ≡ text_units (meaning self.now held.now) };
+
+    /// Two texts that are held, one behind the other, as one text.
+    fn join(&mut self, left: &Self::Held, right: &Self::Held) -> Result<Self::Held, StoreFault>
+        requires left { owns self.old left.now }
+        requires left_text { IsSome (text_units (meaning self.old left.now)) }
+        requires right { owns self.old right.now }
+        requires right_text { IsSome (text_units (meaning self.old right.now)) }
+        ensures fault { EndsWhere (is_too_long (units_in (meaning self.old left.now)) (units_in (meaning self.old right.now))) result }
+        ensures owned { IfOk result (λ held. owns self.new held) }
+        ensures meaning { IfOk result (λ held. meaning self.new held ≡ Text (units_in (meaning self.old left.now) ++ units_in (meaning self.old right.now))) }
+        ensures view { view self.new ≡ view self.old }
+        ensures later { later self.old self.new };
+
+    /// The part of a text that is held, from one place to another, as a text.
+    fn part(&mut self, held: &Self::Held, from: u32, to: u32) -> Result<Self::Held, NoMemory>
+        requires owned { owns self.old held.now }
+        requires text { IsSome (text_units (meaning self.old held.now)) }
+        requires order { from ≤ to }
+        requires within { to ≤ length (units_in (meaning self.old held.now)) }
+        ensures owned { IfOk result (λ part. owns self.new part) }
+        ensures meaning { IfOk result (λ part. meaning self.new part ≡ Text (take (to - from) (drop from (units_in (meaning self.old held.now))))) }
+        ensures view { view self.new ≡ view self.old }
+        ensures later { later self.old self.new };
 
     /// Makes a node with nothing in it and answers its number.
     fn make(&mut self, kind: Kind, prototype: &Self::Held) -> Result<u32, StoreFault>

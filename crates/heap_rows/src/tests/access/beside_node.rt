@@ -404,17 +404,21 @@ fn are_same(texts: &[Units], others: &[Units]) -> bool {
     true
 }
 
-// Whether a row is right, both by the values of keys and by their names, and both ask for the same texts.
+// Whether a row is right by the values of keys, by their names and by what is held of them, and all ask for the same texts.
 fn is_answered(alloc: Global, row: &str) -> Result<bool, Refused> {
     let Some((steps, answer)) = row.split_once(" = ") else {
         return Err(Refused::Row);
     };
-    let by_value = keys_after(alloc, steps, By::Value, answer)?;
-    let by_name = keys_after(alloc, steps, By::Name, answer)?;
-    match (by_value, by_name) {
-        (Some(keys), Some(others)) => Ok(are_same(keys.log(), others.log())),
-        _ => Ok(false),
+    let Some(keys) = keys_after(alloc, steps, By::Value, answer)? else {
+        return Ok(false);
+    };
+    for by in [By::Name, By::Held] {
+        match keys_after(alloc, steps, by, answer)? {
+            Some(others) if are_same(keys.log(), others.log()) => {}
+            _ => return Ok(false),
+        }
     }
+    Ok(true)
 }
 
 // The first row of a table that is not right.

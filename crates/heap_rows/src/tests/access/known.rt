@@ -6,6 +6,7 @@ ghost use Rattle.snap_action.specs.Names.{IsKnown};
 use crate::tests::objects::made;
 use crate::tests::refused::Refused;
 use crate::tests::told_keys::ToldKeys;
+use snap_arena::TextView;
 use snap_graph::{Kind, Value};
 use snap_object::{Name, delete_by_name, get_by_name, set_by_name};
 use snap_store::{PlainStore, Store};
@@ -131,5 +132,40 @@ fn looks_a_name_up_once(rt: HostRuntime) -> Result<(), Fail> {
     let keys = store.into_keys();
     assert_eq!(rt; keys.log().len(), 4);
     assert_eq!(rt; keys.given().len(), 2);
+    Ok(())
+}
+
+/// Writes two properties by one name that is renamed in between, and reads the second, the first, and one that is not there,
+/// by the same name.
+fn rename<S: Store>(
+    alloc: Global,
+    store: &mut S,
+    base: &S::Held,
+) -> Result<(i64, i64, i64), Refused>
+    requires { S.owns store.old base.now }
+{
+    let mut name = name_of(alloc, A)?;
+    write(alloc, store, base, &mut name, 1)?;
+    name.rename(alloc, &TextView::Wide(B))?;
+    write(alloc, store, base, &mut name, 2)?;
+    let second = read(alloc, store, base, &mut name)?;
+    name.rename(alloc, &TextView::Narrow(b"a"))?;
+    let first = read(alloc, store, base, &mut name)?;
+    name.rename(alloc, &TextView::Wide(C))?;
+    let none = read(alloc, store, base, &mut name)?;
+    Ok((second, first, none))
+}
+
+/// What that gives of a new node.
+fn rename_one<S: Store>(alloc: Global, store: &mut S) -> Result<(i64, i64, i64), Refused> {
+    let node = made(store, Kind::Plain, &Value::Null)?;
+    let base = store.hold(&Value::Node(node))?;
+    rename(alloc, store, &base)
+}
+
+#[test]
+fn renames_a_name(rt: HostRuntime) -> Result<(), Fail> {
+    let mut store = PlainStore::new(rt.alloc(), OwnKeys::new(rt.alloc()))?;
+    assert_eq!(rt; rename_one(rt.alloc(), &mut store)?, (2, 1, 0));
     Ok(())
 }

@@ -9,7 +9,10 @@ use crate::tests::refused::Refused;
 use crate::tests::values::value_of;
 use snap_base::Stop;
 use snap_graph::Value;
-use snap_object::{Abrupt, Name, delete, delete_by_name, get, get_by_name, set, set_by_name};
+use snap_object::{
+    Abrupt, Name, delete, delete_by_key, delete_by_name, get, get_by_key, get_by_name, set,
+    set_by_key, set_by_name,
+};
 use snap_store::Store;
 use snap_text::{StrView, Units, decimal};
 use std::alloc::Global;
@@ -38,6 +41,8 @@ pub(crate) enum By {
     Value,
     /// As the name of its text, where it has one.
     Name,
+    /// As the value, held, with a name to work in.
+    Held,
 }
 
 /// Takes one step: a verb and its words. Want of memory is none of what it may come to.
@@ -57,6 +62,7 @@ pub(crate) fn step<S: Store>(
         "keys" => keys(store, last, &base),
         verb => match (by, text_of(alloc, &key)?) {
             (By::Name, Some(text)) => named(alloc, store, verb, &base, text, &value),
+            (By::Held, _) => keyed(alloc, store, verb, &base, &key, &value),
             _ => valued(alloc, store, verb, &base, &key, &value),
         },
     }
@@ -173,6 +179,92 @@ fn deleted_by_name<S: Store>(
     let base = store.hold(base)?;
     let mut name = Name::new(text);
     match delete_by_name(alloc, store, &base, &mut name) {
+        Ok(answer) => Ok(Outcome::Deleted(answer)),
+        Err(fault) => abrupt(store, fault),
+    }
+}
+
+// Takes a step by a key that is held.
+fn keyed<S: Store>(
+    alloc: Global,
+    store: &mut S,
+    verb: &str,
+    base: &Value,
+    key: &Value,
+    value: &Value,
+) -> Result<Outcome, Refused>
+    requires base { IsValue (length (S.view store.old).nodes) base.now }
+    requires key { IsValue (length (S.view store.old).nodes) key.now }
+    requires value { IsValue (length (S.view store.old).nodes) value.now }
+{
+    match verb {
+        "get" => read_by_key(alloc, store, base, key),
+        "set" => written_by_key(alloc, store, base, key, value),
+        "delete" => deleted_by_key(alloc, store, base, key),
+        _ => Err(Refused::Row),
+    }
+}
+
+// A name to work in. Its own text is one that no access goes on with, so that an access by it would be seen.
+fn scratch(alloc: Global) -> Result<Name, Refused> {
+    Ok(Name::new(StrView::One(b"__proto__").copy(alloc)?))
+}
+
+// Reads a property by a key that is held.
+fn read_by_key<S: Store>(
+    alloc: Global,
+    store: &mut S,
+    base: &Value,
+    key: &Value,
+) -> Result<Outcome, Refused>
+    requires base { IsValue (length (S.view store.old).nodes) base.now }
+    requires key { IsValue (length (S.view store.old).nodes) key.now }
+{
+    let base = store.hold(base)?;
+    let key = store.hold(key)?;
+    let mut name = scratch(alloc)?;
+    match get_by_key(alloc, store, &base, &key, &mut name) {
+        Ok(held) => Ok(Outcome::Read(store.value(&held)?)),
+        Err(fault) => abrupt(store, fault),
+    }
+}
+
+// Writes a property by a key that is held.
+fn written_by_key<S: Store>(
+    alloc: Global,
+    store: &mut S,
+    base: &Value,
+    key: &Value,
+    value: &Value,
+) -> Result<Outcome, Refused>
+    requires base { IsValue (length (S.view store.old).nodes) base.now }
+    requires key { IsValue (length (S.view store.old).nodes) key.now }
+    requires value { IsValue (length (S.view store.old).nodes) value.now }
+{
+    let base = store.hold(base)?;
+    let key = store.hold(key)?;
+    let held = store.hold(value)?;
+    let mut name = scratch(alloc)?;
+    match set_by_key(alloc, store, &base, &key, &mut name, &held) {
+        Ok(()) => Ok(Outcome::Wrote),
+        Err(fault) => abrupt(store, fault),
+    }
+}
+
+// Deletes a property by a key that is held.
+fn deleted_by_key<S: Store>(
+    alloc: Global,
+    store: &mut S,
+    base: &Value,
+    key: &Value,
+) -> Result<Outcome, Refused>
+    requires base { IsValue (length (S.view store.old).nodes) base.now }
+    requires key { IsValue (length (S.view store.old).nodes) key.now }
+{
+    let base = store.hold(base)?;
+    let key = store.hold(key)?;
+    let mut name = scratch(alloc)?;
+    match delete_by_key(alloc, store, &base, &key, &mut name) {
         Ok(answer) => Ok(Outcome::Deleted(answer)),
         Err(fault) => abrupt(store, fault),
     }

@@ -10,11 +10,16 @@
 //!   `NotInProfile` (`NOT_IN_PROFILE`).
 
 use super::samples::{binary_op, unary_op, value_of};
+use crate::tests::objects::last_node;
 use crate::tests::refused::Refused;
-use crate::tests::values::is_value_of;
+use crate::tests::values::{self, is_value_of};
+use snap_action::Abrupt;
+use snap_apply::{apply_binary, apply_unary};
 use snap_base::Stop;
 use snap_graph::Value;
-use snap_oper::{OperFault, binary, unary};
+use snap_oper::{BinaryOp, OperFault, UnaryOp, binary, unary};
+use snap_store::{PlainStore, Store};
+use snap_text::OwnKeys;
 use std::alloc::Global;
 use std::test::Fail;
 
@@ -715,33 +720,81 @@ fn is_given(alloc: Global, given: Result<Value, OperFault>, answer: &str) -> Res
     }
 }
 
-// Whether an operator between two values gives an answer.
-fn joins(
+// Whether an operator between two values gives an answer, of the values and of what a store holds of them.
+fn joins<S: Store>(
     alloc: Global,
-    left: &str,
-    sign: &str,
-    right: &str,
+    store: &mut S,
+    words: (&str, &str, &str),
     answer: &str,
 ) -> Result<bool, Refused> {
-    let Some(op) = binary_op(sign) else {
+    let Some(op) = binary_op(words.1) else {
         return Err(Refused::Row);
     };
-    let left = value_of(alloc, left)?;
-    let right = value_of(alloc, right)?;
-    is_given(alloc, binary(alloc, op, &left, &right), answer)
+    let left = value_of(alloc, words.0)?;
+    let right = value_of(alloc, words.2)?;
+    Ok(
+        is_given(alloc, binary(alloc, op, &left, &right), answer)?
+            && joins_held(alloc, store, op, (words.0, words.2), answer)?,
+    )
 }
 
-// Whether an operator in front of a value gives an answer.
-fn changes(alloc: Global, sign: &str, word: &str, answer: &str) -> Result<bool, Refused> {
+// Whether an operator between two values that a store holds gives an answer.
+fn joins_held<S: Store>(
+    alloc: Global,
+    store: &mut S,
+    op: BinaryOp,
+    words: (&str, &str),
+    answer: &str,
+) -> Result<bool, Refused> {
+    let last = last_node(store)?;
+    let left = values::value_of(alloc, last, words.0)?;
+    let right = values::value_of(alloc, last, words.1)?;
+    let left = store.hold(&left)?;
+    let right = store.hold(&right)?;
+    let given = match apply_binary(alloc, store, op, &left, &right) {
+        Ok(held) => Ok(store.value(&held)?),
+        Err(Abrupt::Stopped(stop)) => Err(OperFault::Stopped(stop)),
+        Err(fault) => return Err(Refused::from(fault)),
+    };
+    is_given(alloc, given, answer)
+}
+
+// Whether an operator in front of a value gives an answer, of the value and of what a store holds of it.
+fn changes<S: Store>(
+    alloc: Global,
+    store: &mut S,
+    sign: &str,
+    word: &str,
+    answer: &str,
+) -> Result<bool, Refused> {
     let Some(op) = unary_op(sign) else {
         return Err(Refused::Row);
     };
     let value = value_of(alloc, word)?;
-    is_given(alloc, unary(op, &value), answer)
+    Ok(is_given(alloc, unary(op, &value), answer)? && changes_held(alloc, store, op, word, answer)?)
+}
+
+// Whether an operator in front of a value that a store holds gives an answer.
+fn changes_held<S: Store>(
+    alloc: Global,
+    store: &mut S,
+    op: UnaryOp,
+    word: &str,
+    answer: &str,
+) -> Result<bool, Refused> {
+    let last = last_node(store)?;
+    let value = values::value_of(alloc, last, word)?;
+    let held = store.hold(&value)?;
+    let given = match apply_unary(store, op, &held) {
+        Ok(held) => Ok(store.value(&held)?),
+        Err(Abrupt::Stopped(stop)) => Err(OperFault::Stopped(stop)),
+        Err(fault) => return Err(Refused::from(fault)),
+    };
+    is_given(alloc, given, answer)
 }
 
 // Whether the operator of a row gives its answer.
-fn is_answered(alloc: Global, row: &str) -> Result<bool, Refused> {
+fn is_answered<S: Store>(alloc: Global, store: &mut S, row: &str) -> Result<bool, Refused> {
     let Some((question, answer)) = row.split_once(" = ") else {
         return Err(Refused::Row);
     };
@@ -749,25 +802,39 @@ fn is_answered(alloc: Global, row: &str) -> Result<bool, Refused> {
         return Err(Refused::Row);
     };
     match rest.split_once(' ') {
-        Some((sign, right)) => joins(alloc, first, sign, right, answer),
-        None => changes(alloc, first, rest, answer),
+        Some((sign, right)) => joins(alloc, store, (first, sign, right), answer),
+        None => changes(alloc, store, first, rest, answer),
     }
 }
 
 // The first row of a table that is not right.
-fn first_wrong_of(alloc: Global, table: &'static str) -> Result<Option<&'static str>, Refused> {
+fn first_wrong_of<S: Store>(
+    alloc: Global,
+    store: &mut S,
+    table: &'static str,
+) -> Result<Option<&'static str>, Refused> {
     for row in table.lines() {
-        if !is_answered(alloc, row)? {
+        if !is_answered(alloc, store, row)? {
             return Ok(Some(row));
         }
     }
     Ok(None)
 }
 
+// Makes the nodes that rows name: ten are enough behind the 62 that are there from the start.
+fn make_nodes<S: Store>(store: &mut S) -> Result<(), Refused> {
+    for _turn in 0..10 {
+        last_node(store)?;
+    }
+    Ok(())
+}
+
 // The first row that is not right.
 fn first_wrong(alloc: Global) -> Result<Option<&'static str>, Refused> {
+    let mut store = PlainStore::new(alloc, OwnKeys::new(alloc))?;
+    make_nodes(&mut store)?;
     for table in [SAME, MINUS_ZERO, NOT_SAFE, NOT_IN_PROFILE] {
-        let wrong = first_wrong_of(alloc, table)?;
+        let wrong = first_wrong_of(alloc, &mut store, table)?;
         if wrong.is_some() {
             return Ok(wrong);
         }

@@ -14,8 +14,5 @@ returns-in-Undefined-clause-gives g c =
     (λ e. at_same (λ base. get base (Text c.args.name.now.text)) (sym e) (threw TYPE_ERROR_PROTOTYPE (codes "no properties") c.type_error.ensures))
     c.in-Undefined.is
 
-pub returns-in-Text-clause-gives : goal.returns-in-Text-clause-gives
-returns-in-Text-clause-gives g c = at_same (λ base. get base (Text c.args.name.now.text)) (sym c.in-Text.is) c.get_of_text.ensures.gives
-
 pub returns-in-Empty-clause-gives : goal.returns-in-Empty-clause-gives
 returns-in-Empty-clause-gives g c = at_same (λ base. get base (Text c.args.name.now.text)) (sym c.in-Empty.is) (stopped (record { view = refl; later = g.met.S.Store.at_once c.args.store.now }) NotInProfile)

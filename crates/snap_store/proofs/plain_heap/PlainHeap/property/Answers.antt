@@ -14,12 +14,12 @@ pub returns-clause-owned : goal.returns-clause-owned
 returns-clause-owned c =
     let heap = c.args.self.now in
     let old = c.index.result.now in
-    owns_property heap.texts.items (heap_nodes heap) old (lawful_at (heap_nodes heap) heap.lawful c.args.node (node_in heap.texts.items old) (here heap.texts.items heap.nodes.items c.args.node old c.requires.number c.index.ensures)) (node_within heap.texts.items heap.nodes.items c.args.node old c.requires.number c.index.ensures (length heap.texts.items) heap.within) c.args.place c.index-2.result.now
-    (omega (arith, c.requires.place, ap length (properties_here heap.texts.items heap.nodes.items c.args.node old c.requires.number c.index.ensures))) c.index-2.ensures
+    owns_property heap.texts (heap_nodes heap) old (lawful_at (heap_nodes heap) heap.lawful c.args.node (node_in heap.texts old) (here heap.texts heap.nodes.items c.args.node old c.requires.number c.index.ensures)) (node_within heap.texts heap.nodes.items c.args.node old c.requires.number c.index.ensures heap.texts heap.within) c.args.place c.index-2.result.now
+    (omega (arith, c.requires.place, ap length (properties_here heap.texts heap.nodes.items c.args.node old c.requires.number c.index.ensures))) c.index-2.ensures
 
 pub returns-clause-meaning : goal.returns-clause-meaning
 returns-clause-meaning c = λ key place.
     let heap = c.args.self.now in
     let old = c.index.result.now in
-    ap (option_and_then (λ (n : Node). held_under key n.properties)) (here heap.texts.items heap.nodes.items c.args.node old c.requires.number c.index.ensures)
-    ∙ held_at heap.texts.items key old.properties.items c.args.place c.index-2.result.now (place_here heap.texts.items heap.nodes.items c.args.node old c.requires.number c.index.ensures key (Some c.args.place) place) c.index-2.ensures
+    ap (option_and_then (λ (n : Node). held_under key n.properties)) (here heap.texts heap.nodes.items c.args.node old c.requires.number c.index.ensures)
+    ∙ held_at heap.texts key old.properties.items c.args.place c.index-2.result.now (place_here heap.texts heap.nodes.items c.args.node old c.requires.number c.index.ensures key (Some c.args.place) place) c.index-2.ensures

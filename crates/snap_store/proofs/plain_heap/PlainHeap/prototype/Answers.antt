@@ -1,4 +1,4 @@
-use Rattle.std.proofs.Common.{length, ap}
+use Rattle.std.proofs.Common.{ap}
 use Rattle.std.specs.Option.{option_map}
 use Rattle.snap_graph.specs.declared.node.Node.{Node}
 use Rattle.snap_store.specs.Plain.{node_in}
@@ -12,10 +12,10 @@ pub returns-clause-owned : goal.returns-clause-owned
 returns-clause-owned c =
     let heap = c.args.self.now in
     let old = c.index.result.now in
-    owns_prototype heap.texts.items (heap_nodes heap) old (lawful_at (heap_nodes heap) heap.lawful c.args.node (node_in heap.texts.items old) (here heap.texts.items heap.nodes.items c.args.node old c.requires c.index.ensures)) (node_within heap.texts.items heap.nodes.items c.args.node old c.requires c.index.ensures (length heap.texts.items) heap.within)
+    owns_prototype heap.texts (heap_nodes heap) old (lawful_at (heap_nodes heap) heap.lawful c.args.node (node_in heap.texts old) (here heap.texts heap.nodes.items c.args.node old c.requires c.index.ensures)) (node_within heap.texts heap.nodes.items c.args.node old c.requires c.index.ensures heap.texts heap.within)
 
 pub returns-clause-meaning : goal.returns-clause-meaning
 returns-clause-meaning c =
     let heap = c.args.self.now in
     let old = c.index.result.now in
-    ap (option_map (λ (n : Node). n.prototype)) (here heap.texts.items heap.nodes.items c.args.node old c.requires c.index.ensures)
+    ap (option_map (λ (n : Node). n.prototype)) (here heap.texts heap.nodes.items c.args.node old c.requires c.index.ensures)

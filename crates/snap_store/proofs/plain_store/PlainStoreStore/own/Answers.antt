@@ -8,4 +8,4 @@ pub returns-in-None-clause-meaning : goal.returns-in-None-clause-meaning
 returns-in-None-clause-meaning g c = λ text e.
     let heap = c.args.self.now.heap in
     let none = subst (λ (ps : List PlainProperty). IsPlaceOf text ps None) c.properties.ensures.value (c.in-None.ensures text e) in
-    sym (own_none heap.texts.items heap.nodes.items c.args.node text none)
+    sym (own_none heap.texts heap.nodes.items c.args.node text none)

@@ -14,13 +14,13 @@ pub returns-in_err-text-in-None-clause-known : goal.returns-in_err-text-in-None-
 returns-in_err-text-in-None-clause-known g c = λ text e some.
     let heap = c.args.self.now.heap in
     let none = subst (λ (ps : List PlainProperty). IsPlaceOf text ps None) c.properties.ensures.value (c.in-None.ensures text e) in
-    absurd (false≢true (sym (ap is_some (own_none heap.texts.items heap.nodes.items c.args.node text none)) ∙ some))
+    absurd (false≢true (sym (ap is_some (own_none heap.texts heap.nodes.items c.args.node text none)) ∙ some))
 
 pub returns-in-Some-clause-fault : goal.returns-in-Some-clause-fault
 returns-in-Some-clause-fault g c = λ text e.
     let heap = c.args.self.now.heap in
     let found = subst (λ (ps : List PlainProperty). IsPlaceOf text ps (Some c.in-Some.place)) c.properties.ensures.value (c.in-Some.ensures text e) in
-    not_full heap.texts.items heap.nodes.items c.args.node text c.in-Some.place found
+    not_full heap.texts heap.nodes.items c.args.node text c.in-Some.place found
 
 pub returns-in-Some-clause-ok : goal.returns-in-Some-clause-ok
 returns-in-Some-clause-ok g c = λ text e.
@@ -38,13 +38,13 @@ pub returns-in_ok-text-in-None-clause-known : goal.returns-in_ok-text-in-None-cl
 returns-in_ok-text-in-None-clause-known g c = λ text e some.
     let heap = c.args.self.now.heap in
     let none = subst (λ (ps : List PlainProperty). IsPlaceOf text ps None) c.properties.ensures.value (c.in-None.ensures text e) in
-    absurd (false≢true (sym (ap is_some (own_none heap.texts.items heap.nodes.items c.args.node text none)) ∙ some))
+    absurd (false≢true (sym (ap is_some (own_none heap.texts heap.nodes.items c.args.node text none)) ∙ some))
 
 pub returns-in_ok-text-in-None-clause-ok : goal.returns-in_ok-text-in-None-clause-ok
 returns-in_ok-text-in-None-clause-ok g c = λ text e.
     let heap = c.args.self.now.heap in
     let own = g.met.K.Keys.one_text c.args.self.now.keys c.args.key c.in_ok-text-in-None.text text c.in_ok-text-in-None.ensures e in
-    on_ok c.create.result (λ nodes. written heap c.create.new.self (g.K.Keys.log c.args.self.now.keys) _ (nodes ∙ ap (λ (t : List ℕ). with_own (heap_nodes heap) c.args.node t (value_in heap.texts.items c.args.held.now)) own) c.create.ensures.private_nodes) c.create.ensures.nodes
+    on_ok c.create.result (λ nodes. written heap c.create.new.self (g.K.Keys.log c.args.self.now.keys) _ (nodes ∙ ap (λ (t : List ℕ). with_own (heap_nodes heap) c.args.node t (value_in heap.texts c.args.held.now)) own) c.create.ensures.private_nodes) c.create.ensures.nodes
 
 pub invariant_of-self : goal.invariant_of-self
 invariant_of-self g c = record { keyed = c.write.ensures.keyed (g.K.Keys.key_of c.args.self.now.keys) c.args.self.now.keyed }

@@ -8,19 +8,19 @@ pub returns-in-Some-clause-found : goal.returns-in-Some-clause-found
 returns-in-Some-clause-found g c = λ text e.
     let heap = c.args.self.now.heap in
     let found = subst (λ (ps : List PlainProperty). IsPlaceOf text ps (Some c.in-Some.place)) c.properties.ensures.value (c.in-Some.ensures text e) in
-    sym (own_some heap.texts.items heap.nodes.items c.args.node text c.in-Some.place found)
+    sym (own_some heap.texts heap.nodes.items c.args.node text c.in-Some.place found)
 
 pub returns-in-None-clause-found : goal.returns-in-None-clause-found
 returns-in-None-clause-found g c = λ text e.
     let heap = c.args.self.now.heap in
     let none = subst (λ (ps : List PlainProperty). IsPlaceOf text ps None) c.properties.ensures.value (c.in-None.ensures text e) in
-    sym (ap is_some (own_none heap.texts.items heap.nodes.items c.args.node text none))
+    sym (ap is_some (own_none heap.texts heap.nodes.items c.args.node text none))
 
 pub returns-in-None-clause-ok : goal.returns-in-None-clause-ok
 returns-in-None-clause-ok g c = λ text e.
     let heap = c.args.self.now.heap in
     let none = subst (λ (ps : List PlainProperty). IsPlaceOf text ps None) c.properties.ensures.value (c.in-None.ensures text e) in
-    λ i. record { nodes = without_none heap.texts.items heap.nodes.items c.args.node text none i; private_nodes = heap.private_nodes; log = g.K.Keys.log c.args.self.now.keys }
+    λ i. record { nodes = without_none heap.texts heap.nodes.items c.args.node text none i; private_nodes = heap.private_nodes; log = g.K.Keys.log c.args.self.now.keys }
 
 pub invariant_of-self : goal.invariant_of-self
 invariant_of-self g c = record { keyed = c.remove.ensures.keyed (g.K.Keys.key_of c.args.self.now.keys) c.args.self.now.keyed }

@@ -12,7 +12,7 @@ pub returns-in-Some-clause-found : goal.returns-in-Some-clause-found
 returns-in-Some-clause-found g c = λ text e.
     let heap = c.args.self.now.heap in
     let found = subst (λ (ps : List PlainProperty). IsPlaceOf text ps (Some c.in-Some.place)) c.properties.ensures.value (c.in-Some.ensures text e) in
-    sym (own_some heap.texts.items heap.nodes.items c.args.node text c.in-Some.place found)
+    sym (own_some heap.texts heap.nodes.items c.args.node text c.in-Some.place found)
 
 pub returns-in-Some-clause-written : goal.returns-in-Some-clause-written
 returns-in-Some-clause-written g c = λ text e.
@@ -24,4 +24,4 @@ pub returns-in-None-clause-found : goal.returns-in-None-clause-found
 returns-in-None-clause-found g c = λ text e.
     let heap = c.args.self.now.heap in
     let none = subst (λ (ps : List PlainProperty). IsPlaceOf text ps None) c.properties.ensures.value (c.in-None.ensures text e) in
-    sym (ap is_some (own_none heap.texts.items heap.nodes.items c.args.node text none))
+    sym (ap is_some (own_none heap.texts heap.nodes.items c.args.node text none))

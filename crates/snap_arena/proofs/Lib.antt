@@ -1,0 +1,4 @@
+pub mod Contents
+pub mod Growing
+pub mod Orders
+pub mod Prints
