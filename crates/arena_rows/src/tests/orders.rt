@@ -71,7 +71,7 @@ fn joins_no_text_that_is_too_long(rt: HostRuntime) -> Result<(), Fail> {
     assert_eq!(rt; shelf.len(), 16);
     assert!(rt; shelf.is_right());
     shelf.part(14, 1, 16_777_216)?;
-    assert!(rt; shelf.join(16, 15) == Ok(()));
+    shelf.join(16, 15)?;
     assert_eq!(rt; shelf.length(17), 16_777_216);
     assert!(rt; shelf.is_right());
     Ok(())
