@@ -19,9 +19,9 @@ use Rattle.snap_store.specs.declared.fault.StoreFault.{StoreFault}
 use Rattle.snap_store.specs.declared.fault.StoreFault.TheVariants.{TooManyNodes, TooLong, NoMemory}
 use Rattle.snap_store.specs.declared.store.Store.{Ghosts}
 use Rattle.snap_store.specs.View.{View, with_logged, with_made, with_nodes}
-use Rattle.spec_values.specs.Access.{is_array, kind_of}
+use Rattle.spec_values.specs.Access.{is_array}
 use Rattle.spec_values.specs.Answer.{Action, Gave, Stopped as StoppedAt, use_key}
-use Rattle.spec_values.specs.Operations.{add_element, elements_of, make, push_element, put_own, with_more, with_own}
+use Rattle.spec_values.specs.Operations.{add_element, elements_of, kind_of, make, push_element, put_own, with_more, with_own}
 use Rattle.snap_action.specs.declared.errors.ErrorKind.{ErrorKind}
 use Rattle.snap_action.specs.declared.errors.ErrorKind.TheVariants as errors
 use Rattle.snap_action.specs.declared.fault.Abrupt.{Abrupt}

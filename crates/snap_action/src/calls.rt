@@ -8,9 +8,8 @@ ghost use Rattle.snap_graph.specs.Values.{IsPlace, IsValue};
 ghost use Rattle.snap_action.specs.Gives.{Gives, as_held, as_is, as_key, as_node};
 ghost use Rattle.snap_store.specs.Calls.{IsResource};
 ghost use Rattle.snap_store.specs.View.{with_made};
-ghost use Rattle.spec_values.specs.Access.{kind_of};
 ghost use Rattle.spec_values.specs.Answer.{give, use_key};
-ghost use Rattle.spec_values.specs.Operations.{close, freeze, is_frozen, make, put_own, remove_own, write_own};
+ghost use Rattle.spec_values.specs.Operations.{close, freeze, is_frozen, kind_of, make, put_own, remove_own, write_own};
 
 use crate::fault::Abrupt;
 use snap_graph::{Kind, Value};

@@ -5,8 +5,8 @@ ghost use Rattle.snap_graph.specs.declared.kind.Kind.TheVariants.{Array};
 ghost use Rattle.snap_graph.specs.Values.{IsValue};
 ghost use Rattle.snap_action.specs.Gives.{Gives, as_held, as_is, as_some};
 ghost use Rattle.snap_store.specs.Calls.{MayStandIn};
-ghost use Rattle.spec_values.specs.Access.{is_array, kind_of};
-ghost use Rattle.spec_values.specs.Operations.{add_element, elements_of, is_frozen, pop_element, push_element, set_element};
+ghost use Rattle.spec_values.specs.Access.{is_array};
+ghost use Rattle.spec_values.specs.Operations.{add_element, elements_of, is_frozen, kind_of, pop_element, push_element, set_element};
 
 use crate::fault::Abrupt;
 use snap_store::Store;

@@ -6,8 +6,8 @@ ghost use Rattle.snap_action.specs.Gives.{Gives, as_held, as_is, as_node};
 ghost use Rattle.snap_graph.specs.declared.kind.Kind.TheVariants.{Error as Errors};
 ghost use Rattle.snap_graph.specs.declared.value.Value.TheVariants.{Node as At};
 ghost use Rattle.snap_graph.specs.Values.{IsValue};
-ghost use Rattle.spec_values.specs.Access.{kind_of, throw_error};
-ghost use Rattle.spec_values.specs.Operations.{is_frozen, make};
+ghost use Rattle.spec_values.specs.Access.{throw_error};
+ghost use Rattle.spec_values.specs.Operations.{is_frozen, kind_of, make};
 
 use crate::calls::{hold_value, make_node, put_property, use_text};
 use crate::fault::Abrupt;

@@ -2,9 +2,7 @@
 
 ghost use Rattle.std.specs.Prelude.{◌≡◌, ◌<◌, Some, Ok, length, slice_get};
 ghost use Rattle.snap_action.specs.Gives.{Gives, as_held, as_is, as_some};
-ghost use Rattle.snap_store.specs.Calls.{own_keys_of, prototype_of};
-ghost use Rattle.spec_values.specs.Access.{kind_of};
-ghost use Rattle.spec_values.specs.Operations.{elements_of, is_frozen, own_value, see};
+ghost use Rattle.spec_values.specs.Operations.{elements_of, is_frozen, kind_of, own_keys_of, own_value, prototype_of, see};
 
 use crate::fault::Abrupt;
 use snap_base::Items;

@@ -40,7 +40,7 @@ module _ (pairs : List Pair) where
       chosen true ps qs us vs h k = h
       chosen false ps qs us vs h k = k
 
-  orders_agree : (xs ys : List Property) → AllZip (PropertiesAgree pairs) xs ys → AllZip (PropertiesAgree pairs) (own_order xs) (own_order ys)
+  pub orders_agree : (xs ys : List Property) → AllZip (PropertiesAgree pairs) xs ys → AllZip (PropertiesAgree pairs) (own_order xs) (own_order ys)
   orders_agree [] [] h = tt
   orders_agree [] (y ∷ ys) h = absurd h
   orders_agree (x ∷ xs) [] h = absurd h

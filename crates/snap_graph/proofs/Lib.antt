@@ -1,7 +1,7 @@
 pub mod Fitting
-mod Following
+pub mod Following
 pub mod Indices
 mod LeastPaths
 mod Mirrors
 mod Ranks
-mod Turning
+pub mod Turning

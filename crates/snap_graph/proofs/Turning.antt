@@ -20,10 +20,10 @@ agree_as_turned pairs one other None (Some n) h = h
 agree_as_turned pairs one other (Some m) None h = h
 agree_as_turned pairs one other (Some m) (Some n) h = paired_turned pairs m n h
 
-agree_turned : (pairs : List Pair) (one other : Value) → Agree pairs one other → Agree (map turned pairs) other one
+pub agree_turned : (pairs : List Pair) (one other : Value) → Agree pairs one other → Agree (map turned pairs) other one
 agree_turned pairs one other h = agree_as_turned pairs one other (node_of one) (node_of other) h
 
-all_turned : {A : Type 0} (R S : A → A → Type 0) → ((x y : A) → R x y → S y x) → (xs ys : List A) → AllZip R xs ys → AllZip S ys xs
+pub all_turned : {A : Type 0} (R S : A → A → Type 0) → ((x y : A) → R x y → S y x) → (xs ys : List A) → AllZip R xs ys → AllZip S ys xs
 all_turned R S f [] [] h = tt
 all_turned R S f [] (y ∷ ys) h = h
 all_turned R S f (x ∷ xs) [] h = h
@@ -38,11 +38,11 @@ nodes_turned pairs one other h = record {
   elements = all_turned (Agree pairs) (Agree (map turned pairs)) (agree_turned pairs) one.elements other.elements h.elements;
 }
 
-pair_turned : (nodes others : List Node) (pairs : List Pair) (pair : Pair) → IsPairOf nodes others pairs pair → IsPairOf others nodes (map turned pairs) (turned pair)
+pub pair_turned : (nodes others : List Node) (pairs : List Pair) (pair : Pair) → IsPairOf nodes others pairs pair → IsPairOf others nodes (map turned pairs) (turned pair)
 pair_turned nodes others pairs pair h = record { one = h.other; other = h.one; first = h.second; second = h.first; agree = nodes_turned pairs h.one h.other h.agree }
 
 -- what is read of turned pairs
-turned_at : (pairs : List Pair) (i : ℕ) (d : Pair) → i < length pairs → get_or (map turned pairs) i d ≡ turned (get_or pairs i (turned d))
+pub turned_at : (pairs : List Pair) (i : ℕ) (d : Pair) → i < length pairs → get_or (map turned pairs) i d ≡ turned (get_or pairs i (turned d))
 turned_at pairs i d h = get_or-map turned pairs i (turned d) d h
 
 pub matches_turned : (nodes others : List Node) (roots other_roots : List Value) (pairs : List Pair) → Matches nodes roots others other_roots pairs → Matches others other_roots nodes roots (map turned pairs)

@@ -6,9 +6,9 @@ use Rattle.snap_graph.specs.declared.intrinsic.TheConstants.{STRING_PROTOTYPE}
 use Rattle.snap_graph.specs.declared.value.Value.{Value}
 use Rattle.snap_graph.specs.declared.value.Value.TheVariants.{Undefined, Null, Bool as Truth, Int, Node as At, Text, Empty}
 use Rattle.snap_store.specs.Calls.{text_units, units_in}
-use Rattle.spec_values.specs.Access.{delete, found_or, is_size, is_special, is_there, kind_of, look_up, reached_from, set, size_of, unit_or_undefined}
+use Rattle.spec_values.specs.Access.{delete, found_or, is_size, is_special, is_there, look_up, reached_from, set, size_of, unit_or_undefined}
 use Rattle.spec_values.specs.Answer.{Heap, stop}
-use Rattle.spec_values.specs.Operations.{own_value}
+use Rattle.spec_values.specs.Operations.{kind_of, own_value}
 use Rattle.snap_object.specs.Parts.{looked_up}
 use Rattle.snap_object.specs.Texts.{without_units}
 

@@ -7,7 +7,7 @@ use Rattle.snap_graph.specs.declared.node.Node.{Node}
 use Rattle.snap_graph.specs.declared.value.Value.{Value}
 use Rattle.snap_graph.specs.declared.value.Value.TheVariants as value
 use Rattle.snap_graph.specs.Lawful.{IsLawful, IsLawfulNode, chain_from, chain_within}
-use Rattle.snap_store.specs.Calls.{prototype_of}
+use Rattle.spec_values.specs.Operations.{prototype_of}
 use Rattle.spec_values.specs.Access.{reached_from}
 use Rattle.snap_object.specs.Search.{Follows}
 

@@ -8,9 +8,9 @@ use Rattle.snap_graph.specs.declared.node.Node.{Node}
 use Rattle.snap_graph.specs.Lawful.{IsLawful}
 use Rattle.snap_graph.specs.declared.value.Value.{Value}
 use Rattle.snap_graph.specs.declared.value.Value.TheVariants.{Undefined, Null, Bool as Truth, Int, Node as At, Text, Empty}
-use Rattle.spec_values.specs.Access.{get, get_of_node, index_of, is_array, is_length, kind_of, look_up, named_key, reached_from}
+use Rattle.spec_values.specs.Access.{get, get_of_node, index_of, is_array, is_length, look_up, named_key, reached_from}
 use Rattle.spec_values.specs.Answer.{◌>>=◌, Gave, Heap, give, stop}
-use Rattle.spec_values.specs.Operations.{elements_of}
+use Rattle.spec_values.specs.Operations.{elements_of, kind_of}
 use Rattle.snap_action.specs.declared.fault.Abrupt.{Abrupt}
 use Rattle.snap_store.specs.declared.store.Store.{Ghosts}
 use Rattle.snap_action.specs.Gives.{Gives, Shows, as_is, standing}

@@ -6,10 +6,10 @@ use Rattle.snap_base.specs.declared.stop.Stop.TheVariants.{NotInProfile}
 use Rattle.snap_graph.specs.declared.intrinsic.TheConstants.{STRING_PROTOTYPE, TYPE_ERROR_PROTOTYPE}
 use Rattle.snap_graph.specs.declared.value.Value.{Value}
 use Rattle.snap_graph.specs.declared.value.Value.TheVariants.{Undefined, Null, Bool as Truth, Int, Text, Node as At, Empty}
-use Rattle.spec_values.specs.Access.{delete, delete_named, delete_of_node, delete_of_text, element_of, element_or_undefined, entry_count, found_or, get, get_of_node, get_of_text, index_of, is_length, is_size, is_special, kind_of, look_up, may_write, named_key, not_writable, or_stop, reached_from, set, set_element_of, set_named, set_of_node, set_of_text, size_of, size_or_throw, unit_or_undefined}
+use Rattle.spec_values.specs.Access.{delete, delete_named, delete_of_node, delete_of_text, element_of, element_or_undefined, entry_count, found_or, get, get_of_node, get_of_text, index_of, is_length, is_size, is_special, look_up, may_write, named_key, not_writable, or_stop, reached_from, set, set_element_of, set_named, set_of_node, set_of_text, size_of, size_or_throw, unit_or_undefined}
 use Rattle.spec_values.specs.Answer.{Action, give, stop, use_key}
 use Rattle.spec_values.specs.Conversions.{text_of}
-use Rattle.spec_values.specs.Operations.{elements_of, is_frozen, own_value, put_own, remove_own, with_element}
+use Rattle.spec_values.specs.Operations.{elements_of, is_frozen, kind_of, own_value, put_own, remove_own, with_element}
 use Rattle.snap_action.proofs.Follows.{grows_then}
 use Rattle.snap_action.proofs.Growing.{Goes, by_heap_grows, change_grows, chosen_grows, error_grows, give_grows, push_grows, put_grows, remove_grows, stop_grows, use_grows}
 use Rattle.snap_object.specs.Parts.{is_kept, is_outside, looked_up, may_write_from, node_rest, outside, put_unless_frozen, refused, text_rest, without}

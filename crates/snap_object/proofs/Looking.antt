@@ -3,9 +3,9 @@ use Rattle.std.proofs.Common.{◌≡◌, ℕ, Bool, true, false, List, [], ◌�
 use Rattle.snap_base.specs.declared.stop.Stop.TheVariants.{NotInProfile}
 use Rattle.snap_graph.specs.declared.value.Value.{Value}
 use Rattle.snap_graph.specs.declared.value.Value.TheVariants.{Undefined}
-use Rattle.spec_values.specs.Access.{found_or, is_size, is_special, kind_of, look_up, reached_from, size_of}
+use Rattle.spec_values.specs.Access.{found_or, is_size, is_special, look_up, reached_from, size_of}
 use Rattle.spec_values.specs.Answer.{Action, Heap, give, stop}
-use Rattle.spec_values.specs.Operations.{own_value}
+use Rattle.spec_values.specs.Operations.{kind_of, own_value}
 use Rattle.snap_action.specs.declared.fault.Abrupt.{Abrupt}
 use Rattle.snap_object.specs.declared.search.Found.{Found}
 use Rattle.snap_object.specs.declared.search.Found.TheVariants.{Special, Size, Own, Absent}

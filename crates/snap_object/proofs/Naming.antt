@@ -10,7 +10,8 @@ use Rattle.snap_graph.specs.OwnKeys.{array_index}
 use Rattle.snap_store.specs.declared.store.Store.{Ghosts}
 use Rattle.snap_text.specs.declared.key.Key.{Key}
 use Rattle.snap_text.specs.Keys.{Keeps}
-use Rattle.spec_values.specs.Access.{delete, delete_named, delete_of_node, delete_of_text, element_of, get, get_of_node, get_of_text, index_of, is_array, kind_of, named_key, not_writable, or_stop, set, set_named, set_of_node, set_of_text}
+use Rattle.spec_values.specs.Access.{delete, delete_named, delete_of_node, delete_of_text, element_of, get, get_of_node, get_of_text, index_of, is_array, named_key, not_writable, or_stop, set, set_named, set_of_node, set_of_text}
+use Rattle.spec_values.specs.Operations.{kind_of}
 use Rattle.spec_values.specs.Answer.{Action, Heap, ◌>>=◌, give, stop, use_key}
 use Rattle.spec_values.specs.Conversions.{text_of}
 use Rattle.spec_values.proofs.Naming.{IsNarrow, index_kept}

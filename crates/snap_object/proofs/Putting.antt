@@ -7,9 +7,9 @@ use Rattle.snap_graph.specs.declared.kind.Kind.{Kind}
 use Rattle.snap_graph.specs.declared.kind.Kind.TheVariants as kind
 use Rattle.snap_graph.specs.declared.node.Node.{Node}
 use Rattle.snap_graph.specs.declared.value.Value.{Value}
-use Rattle.spec_values.specs.Access.{element_of, index_of, is_array, is_length, is_size, is_special, kind_of, may_write, not_writable, reached_from, set_element_of, set_named}
+use Rattle.spec_values.specs.Access.{element_of, index_of, is_array, is_length, is_size, is_special, may_write, not_writable, reached_from, set_element_of, set_named}
 use Rattle.spec_values.specs.Answer.{Action, ◌>>=◌, Heap, give, stop}
-use Rattle.spec_values.specs.Operations.{set_element, elements_of, is_frozen, own_value, push_element, put_own}
+use Rattle.spec_values.specs.Operations.{elements_of, is_frozen, kind_of, own_value, push_element, put_own, set_element}
 use Rattle.snap_action.specs.declared.fault.Abrupt.{Abrupt}
 use Rattle.snap_object.specs.declared.search.Found.{Found}
 use Rattle.snap_object.specs.declared.search.Found.TheVariants.{Special, Size}

@@ -6,11 +6,11 @@ use Rattle.snap_graph.specs.declared.intrinsic.TheConstants.{STRING_PROTOTYPE}
 use Rattle.snap_graph.specs.declared.node.Node.{Node}
 use Rattle.snap_graph.specs.declared.value.Value.{Value}
 use Rattle.snap_graph.specs.declared.value.Value.TheVariants.{Undefined, Null, Bool as Truth, Int, Node as At, Text, Empty}
-use Rattle.spec_values.specs.Access.{element_or_undefined, is_length, is_size, is_special, kind_of, look_up, may_write, named_key, no_properties, not_writable, reached_from}
+use Rattle.spec_values.specs.Access.{element_or_undefined, is_length, is_size, is_special, look_up, may_write, named_key, no_properties, not_writable, reached_from}
 use Rattle.spec_values.specs.Answer.{◌>>=◌, Action, give, stop}
 use Rattle.snap_object.specs.declared.search.Found.{Found}
 use Rattle.snap_object.specs.declared.search.Found.TheVariants.{Special, Size, Own, Absent}
-use Rattle.spec_values.specs.Operations.{elements_of, is_frozen, own_value, put_own, remove_own}
+use Rattle.spec_values.specs.Operations.{elements_of, is_frozen, kind_of, own_value, put_own, remove_own}
 
 -- a key is used, and what follows is not in this profile
 abbrev pub outside : {A : Type 0} → Value → Action A

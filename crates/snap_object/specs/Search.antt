@@ -2,8 +2,8 @@
 use Rattle.std.specs.Prelude.{◌≡◌, ◌<◌, ℕ, List, [], ◌∷◌, length, Option, None, Some, if◌then◌else◌}
 use Rattle.snap_graph.specs.declared.node.Node.{Node}
 use Rattle.snap_graph.specs.declared.value.Value.{Value}
-use Rattle.spec_values.specs.Access.{is_size, is_special, kind_of, reached_from}
-use Rattle.spec_values.specs.Operations.{own_value}
+use Rattle.spec_values.specs.Access.{is_size, is_special, reached_from}
+use Rattle.spec_values.specs.Operations.{kind_of, own_value}
 use Rattle.snap_object.specs.declared.search.Found.{Found}
 use Rattle.snap_object.specs.declared.search.Found.TheVariants.{Special, Size, Own, Absent}
 

@@ -3,8 +3,8 @@ use Rattle.std.specs.Prelude.{◌≡◌, ℕ, Bool, List, Option, None, Some, sl
 use Rattle.snap_graph.specs.declared.node.Node.{Node}
 use Rattle.snap_graph.specs.declared.value.Value.{Value}
 use Rattle.snap_graph.specs.declared.value.Value.TheVariants.{Undefined, Null, Bool as Truth, Int, Text, Node as At, Empty}
-use Rattle.spec_values.specs.Access.{entry_count, is_there, kind_of}
-use Rattle.spec_values.specs.Operations.{elements_of}
+use Rattle.spec_values.specs.Access.{entry_count, is_there}
+use Rattle.spec_values.specs.Operations.{elements_of, kind_of}
 
 -- how many entries a base has, read at one of the two prototypes
 abbrev pub entries_of : List Node → ℕ → Value → Option ℕ

@@ -6,8 +6,8 @@ ghost use Rattle.snap_graph.specs.Lawful.{record_keys};
 ghost use Rattle.snap_graph.specs.Values.{IsPlace};
 ghost use Rattle.snap_action.specs.Gives.{Gives, as_held};
 ghost use Rattle.snap_object.specs.Sizes.{TellsWhether, entries_of};
-ghost use Rattle.spec_values.specs.Access.{entry_count, is_there, kind_of, size_of};
-ghost use Rattle.spec_values.specs.Operations.{elements_of};
+ghost use Rattle.spec_values.specs.Access.{entry_count, is_there, size_of};
+ghost use Rattle.spec_values.specs.Operations.{elements_of, kind_of};
 
 use crate::errors::type_error;
 use crate::texts::is_text;

@@ -12,7 +12,8 @@ ghost use Rattle.snap_graph.specs.Values.{IsPlace, IsValue};
 ghost use Rattle.snap_object.specs.Names.{StaysKnown};
 ghost use Rattle.snap_object.specs.Parts.{length_kept, may_write_from, put_unless_frozen, refused, set_along, unless_frozen, write_where};
 ghost use Rattle.snap_object.specs.Search.{IsOwn, shown};
-ghost use Rattle.spec_values.specs.Access.{element_of, index_of, is_length, kind_of, set, set_element_of, set_named, set_of_node, set_of_text};
+ghost use Rattle.spec_values.specs.Access.{element_of, index_of, is_length, set, set_element_of, set_named, set_of_node, set_of_text};
+ghost use Rattle.spec_values.specs.Operations.{kind_of};
 
 use crate::errors::type_error;
 use crate::indices::{element_of, integer_index};

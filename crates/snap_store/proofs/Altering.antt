@@ -15,8 +15,7 @@ use Rattle.snap_store.specs.declared.plain_node.PlainProperty.{PlainProperty}
 use Rattle.snap_store.specs.Keyed.{AreNodesKeyed, IsKeyed, IsNodeKeyed}
 use Rattle.snap_store.specs.Plain.{IsNodeWithin, IsPlaceOf, node_in, nodes_in, value_in}
 use Rattle.snap_text.specs.declared.key.Key.{Key}
-use Rattle.spec_values.specs.Access.{kind_of}
-use Rattle.spec_values.specs.Operations.{MayHold, changed, elements_of, is_frozen}
+use Rattle.spec_values.specs.Operations.{changed, elements_of, is_frozen, kind_of, MayHold}
 use Rattle.spec_values.proofs.Changes.{changed_same}
 
 -- one node is written over, by one that stands for the changed node

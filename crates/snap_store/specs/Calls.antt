@@ -10,16 +10,8 @@ use Rattle.snap_graph.specs.declared.value.Value.TheVariants as value
 use Rattle.snap_graph.specs.OwnKeys.{own_order}
 use Rattle.snap_store.specs.declared.fault.StoreFault.{StoreFault}
 use Rattle.snap_store.specs.declared.fault.StoreFault.TheVariants.{TooManyNodes, TooLong, NoMemory}
-use Rattle.spec_values.specs.Access.{is_array, kind_of}
-use Rattle.spec_values.specs.Operations.{MayHold, elements_of, is_frozen, own_value, properties_of}
-
--- the prototype of a node
-abbrev pub prototype_of : List Node → ℕ → Option Value
-prototype_of nodes number = option_map (λ node. node.prototype) (slice_get nodes number)
-
--- the keys of a node's own properties, in the order of own keys
-abbrev pub own_keys_of : List Node → ℕ → List (List ℕ)
-own_keys_of nodes number = map (λ property. property.key) (own_order (properties_of nodes number))
+use Rattle.spec_values.specs.Access.{is_array}
+use Rattle.spec_values.specs.Operations.{elements_of, is_frozen, kind_of, MayHold, own_value, properties_of}
 
 -- a kind of nodes that stand for a dealing with the outside
 abbrev pub IsResource : Kind → Type 0

@@ -5,9 +5,9 @@ ghost use Rattle.snap_base.specs.declared.stop.Stop.TheVariants.{TooLong, TooMan
 ghost use Rattle.snap_graph.specs.declared.kind.Kind.{Kind};
 ghost use Rattle.snap_graph.specs.declared.value.Value.{Value};
 ghost use Rattle.snap_store.specs.Calls.{has_room, is_full, is_long};
-ghost use Rattle.spec_values.specs.Access.{is_array, kind_of};
+ghost use Rattle.spec_values.specs.Access.{is_array};
 ghost use Rattle.spec_values.specs.Answer.{Gave, Heap, Stopped};
-ghost use Rattle.spec_values.specs.Operations.{make, new_node, push_element, put_own, with_more, with_nodes, with_own};
+ghost use Rattle.spec_values.specs.Operations.{kind_of, make, new_node, push_element, put_own, with_more, with_nodes, with_own};
 
 /// The calls that have a limit are the operations that have one: they stop exactly where a call is refused
 /// otherwise than for want of memory, and give what the call leaves.

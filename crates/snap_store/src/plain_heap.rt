@@ -39,13 +39,12 @@ impl PlainHeap {
     ghost use Rattle.snap_graph.specs.Intrinsics.{IsNative, intrinsics};
     ghost use Rattle.snap_graph.specs.Lawful.{IsElementKey, IsPrototype};
     ghost use Rattle.snap_graph.specs.Values.{IsPlace, IsValue};
-    ghost use Rattle.snap_store.specs.Calls.{EndsWhere, IsResource, MakesWhere, MayStandIn, has_room, is_full, is_long, own_keys_of, prototype_of};
+    ghost use Rattle.snap_store.specs.Calls.{EndsWhere, IsResource, MakesWhere, MayStandIn, has_room, is_full, is_long};
     ghost use Rattle.snap_store.specs.Keyed.{AreNodesKeyed, IsKeyed};
     ghost use Rattle.snap_store.specs.Plain.{IsPlaceOf, value_in};
     ghost use Rattle.snap_store.specs.PlainHeaps.{Follows, HeapOwns, heap_nodes, heap_properties};
     ghost use Rattle.snap_text.specs.declared.key.Key.{Key};
-    ghost use Rattle.spec_values.specs.Access.{kind_of};
-    ghost use Rattle.spec_values.specs.Operations.{elements_of, is_frozen, new_node, own_value, with_closed, with_element, with_fewer, with_frozen, with_more, with_own, without_own};
+    ghost use Rattle.spec_values.specs.Operations.{elements_of, is_frozen, kind_of, new_node, own_keys_of, own_value, prototype_of, with_closed, with_element, with_fewer, with_frozen, with_more, with_own, without_own};
 
     // The intrinsics alone.
     pub(crate) fn new(alloc: Global) -> Result<PlainHeap, NoMemory>

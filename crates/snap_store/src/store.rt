@@ -11,12 +11,11 @@ ghost use Rattle.snap_graph.specs.declared.value.Value.TheVariants.{Text};
 ghost use Rattle.snap_graph.specs.Intrinsics.{IsNative};
 ghost use Rattle.snap_graph.specs.Lawful.{IsElementKey, IsLawful, IsPrototype};
 ghost use Rattle.snap_graph.specs.Values.{IsPlace, IsValue};
-ghost use Rattle.snap_store.specs.Calls.{EndsWhere, IsResource, MakesWhere, MayStandIn, has_room, is_full, is_long, own_keys_of, prototype_of, text_units, units_in};
+ghost use Rattle.snap_store.specs.Calls.{EndsWhere, IsResource, MakesWhere, MayStandIn, has_room, is_full, is_long, text_units, units_in};
 ghost use Rattle.snap_store.specs.View.{View, with_logged, with_made, with_nodes};
 ghost use Rattle.snap_text.specs.declared.key.Key.{Key};
 ghost use Rattle.snap_text.specs.Keys.{HasText, Keeps};
-ghost use Rattle.spec_values.specs.Access.{kind_of};
-ghost use Rattle.spec_values.specs.Operations.{elements_of, is_frozen, own_value, with_closed, with_element, with_fewer, with_frozen, with_more, with_own, without_own};
+ghost use Rattle.spec_values.specs.Operations.{elements_of, is_frozen, kind_of, own_keys_of, own_value, prototype_of, with_closed, with_element, with_fewer, with_frozen, with_more, with_own, without_own};
 
 use crate::fault::StoreFault;
 use snap_arena::TextView;

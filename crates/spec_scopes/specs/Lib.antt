@@ -5,4 +5,5 @@ pub mod Round
 pub mod Scopes
 pub mod Slots
 pub mod Told
+pub mod Valid
 pub mod Worked

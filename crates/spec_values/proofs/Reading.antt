@@ -6,11 +6,11 @@ use Rattle.snap_base.specs.declared.stop.Stop.TheVariants.{NotInProfile}
 use Rattle.snap_graph.specs.declared.value.Value.{Value}
 use Rattle.snap_graph.specs.declared.value.Value.TheVariants.{Undefined, Null, Bool as Truth, Int, Text, Node as At, Empty}
 use Rattle.snap_graph.specs.Lawful.{IsLawful}
-use Rattle.spec_values.specs.Access.{element_of, element_or_undefined, entry_count, found_or, get, get_of_node, get_of_text, index_of, is_length, is_size, is_special, kind_of, look_up, named_key, or_stop, reached_from, size_of, size_or_throw, unit_or_undefined}
+use Rattle.spec_values.specs.Access.{element_of, element_or_undefined, entry_count, found_or, get, get_of_node, get_of_text, index_of, is_length, is_size, is_special, look_up, named_key, or_stop, reached_from, size_of, size_or_throw, unit_or_undefined}
 use Rattle.spec_values.specs.Answer.{Action, Heap, followed, give, stop}
 use Rattle.spec_values.specs.Conversions.{text_of}
 use Rattle.spec_values.specs.Leaving.{LeavesHeap}
-use Rattle.spec_values.specs.Operations.{elements_of, own_value}
+use Rattle.spec_values.specs.Operations.{elements_of, kind_of, own_value}
 use Rattle.spec_values.proofs.Ending.{Ends, either, ends_then, given, halted, leaves, throws}
 
 -- a heap is left, whatever the result

@@ -12,11 +12,11 @@ use Rattle.snap_graph.specs.declared.node.Node.{Node}
 use Rattle.snap_graph.specs.declared.value.Property.{Property}
 use Rattle.snap_graph.specs.declared.value.Value.{Value}
 use Rattle.snap_graph.specs.declared.value.Value.TheVariants.{Undefined, Null, Bool as Truth, Int, Text, Node as At, Empty}
-use Rattle.spec_values.specs.Access.{delete, delete_named, delete_of_node, delete_of_text, element_of, entry_count, found_or, get, get_of_node, get_of_text, index_of, is_array, is_length, is_size, is_special, kind_of, look_up, may_write, named_key, not_writable, or_stop, reached_from, set, set_element_of, set_named, set_of_node, set_of_text, size_of, size_or_throw, type_error}
+use Rattle.spec_values.specs.Access.{delete, delete_named, delete_of_node, delete_of_text, element_of, entry_count, found_or, get, get_of_node, get_of_text, index_of, is_array, is_length, is_size, is_special, look_up, may_write, named_key, not_writable, or_stop, reached_from, set, set_element_of, set_named, set_of_node, set_of_text, size_of, size_or_throw, type_error}
 use Rattle.spec_values.specs.Answer.{Action, HeapAnswer, Gave, Heap, Stopped, Threw, followed, give, stop, throw_value}
 use Rattle.spec_values.specs.Conversions.{text_of}
 use Rattle.spec_values.specs.Leaving.{LeavesNodes, StandStill}
-use Rattle.spec_values.specs.Operations.{changed, elements_of, is_frozen, make, new_node, own_value, properties_of, push_element, put_own, put_under, remove_under, with_element, with_elements, with_more, with_nodes, with_own, with_properties, without_own}
+use Rattle.spec_values.specs.Operations.{changed, elements_of, is_frozen, kind_of, make, new_node, own_value, properties_of, push_element, put_own, put_under, remove_under, with_element, with_elements, with_more, with_nodes, with_own, with_properties, without_own}
 use Rattle.spec_values.proofs.Changes.{changed_elsewhere, changed_here, length-changed}
 use Rattle.spec_values.proofs.Made.{read_before}
 use Rattle.spec_values.proofs.Writing.{an_array_as, array_node}

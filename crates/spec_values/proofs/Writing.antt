@@ -16,10 +16,10 @@ use Rattle.snap_graph.specs.declared.value.Value.TheVariants.{Undefined, Null, B
 use Rattle.snap_graph.specs.Lawful.{IsElementKey, IsLawful}
 use Rattle.snap_graph.specs.OwnKeys.{array_index}
 use Rattle.snap_graph.specs.Values.{IsValue}
-use Rattle.spec_values.specs.Access.{delete, delete_named, delete_of_node, delete_of_text, element_of, index_of, is_array, is_length, is_size, is_special, kind_of, may_write, named_key, not_writable, reached_from, set, set_element_of, set_named, set_of_node, set_of_text}
+use Rattle.spec_values.specs.Access.{delete, delete_named, delete_of_node, delete_of_text, element_of, index_of, is_array, is_length, is_size, is_special, may_write, named_key, not_writable, reached_from, set, set_element_of, set_named, set_of_node, set_of_text}
 use Rattle.spec_values.specs.Answer.{Gave, Heap, Stopped, followed, give, stop}
 use Rattle.spec_values.specs.Leaving.{LeavesHeap}
-use Rattle.spec_values.specs.Operations.{MayHold, elements_of, held_under, is_frozen, own_value, push_element, put_own, put_under, remove_under, with_element, with_more, with_nodes, with_own, with_properties, without_own}
+use Rattle.spec_values.specs.Operations.{elements_of, held_under, is_frozen, kind_of, MayHold, own_value, push_element, put_own, put_under, remove_under, with_element, with_more, with_nodes, with_own, with_properties, without_own}
 use Rattle.spec_values.proofs.Changes.{changed_same}
 use Rattle.spec_values.proofs.Elements.{with_element_lawful, with_more_lawful, with_own_lawful, without_own_lawful}
 use Rattle.spec_values.proofs.Ending.{Ends, either, ends_then, given, halted, leaves, one_of, put_ends, throws, weaker}

@@ -1,16 +1,20 @@
 -- What one operation does to a heap.
-use Rattle.std.specs.Prelude.{◌≡◌, ℕ, zero, suc, ◌+◌, ◌-◌, ◌&&◌, Bool, true, false, not, nat_lt, nat_le, List, [], ◌∷◌, ◌++◌, length, filter, take, slice_get, slice_set, Option, None, Some, is_some, if◌then◌else◌}
-use Rattle.std.specs.Option.{option_and_then, option_map_or}
+use Rattle.std.specs.Prelude.{◌≡◌, ℕ, zero, suc, ◌+◌, ◌-◌, ◌&&◌, Bool, true, false, not, nat_lt, nat_le, List, [], ◌∷◌, ◌++◌, length, map, filter, take, slice_get, slice_set, Option, None, Some, is_some, if◌then◌else◌}
+use Rattle.std.specs.Option.{option_and_then, option_map, option_map_or}
 use Rattle.std.specs.Str.{bytes_eq as text_eq}
 use Rattle.snap_base.specs.declared.limits.TheConstants.{MOST_ITEMS, MOST_PRIVATE_NODES, MOST_PROPERTIES}
 use Rattle.snap_base.specs.declared.stop.Stop.TheVariants.{TooLong, TooManyNodes}
+use Rattle.snap_graph.specs.declared.intrinsic.TheConstants.{FUNCTION_PROTOTYPE}
 use Rattle.snap_graph.specs.declared.kind.Kind.{Kind}
 use Rattle.snap_graph.specs.declared.kind.Kind.TheVariants as kind
+use Rattle.snap_graph.specs.declared.kind.ScopeKind.{ScopeKind}
 use Rattle.snap_graph.specs.declared.node.Node.{Node}
 use Rattle.snap_graph.specs.declared.value.Property.{Property}
 use Rattle.snap_graph.specs.declared.value.Value.{Value}
+use Rattle.snap_graph.specs.declared.value.Value.TheVariants.{Node as At}
+use Rattle.snap_graph.specs.OwnKeys.{own_order}
 use Rattle.snap_graph.specs.Values.{IsPlace, IsValue}
-use Rattle.spec_values.specs.Answer.{Action, Gave, Heap, Stopped}
+use Rattle.spec_values.specs.Answer.{◌>>=◌, Action, Gave, Heap, Stopped, give}
 
 -- nodes of which one is changed; a number past them changes none
 abbrev pub changed : (Node → Node) → List Node → ℕ → List Node
@@ -51,6 +55,44 @@ elements_of nodes number = option_map_or (λ node. node.elements) (slice_get nod
 -- whether a node is frozen
 abbrev pub is_frozen : List Node → ℕ → Bool
 is_frozen nodes number = option_map_or (λ node. node.frozen) (slice_get nodes number) false
+
+-- what a node is, and its prototype
+abbrev pub kind_of : List Node → ℕ → Option Kind
+kind_of nodes number = option_and_then (λ node. Some node.kind) (slice_get nodes number)
+
+abbrev pub prototype_of : List Node → ℕ → Option Value
+prototype_of nodes number = option_map (λ node. node.prototype) (slice_get nodes number)
+
+-- the keys of a node's own properties, in the order of own keys
+abbrev pub own_keys_of : List Node → ℕ → List (List ℕ)
+own_keys_of nodes number = map (λ property. property.key) (own_order (properties_of nodes number))
+
+-- what is seen of a heap, which stays as it is
+abbrev pub see : {A : Type 0} → (List Node → A) → Action A
+see look heap = Gave (look heap.nodes) heap
+
+-- what is seen of one node: what it is, its prototype, what it holds under a key of its own, its own keys, how many elements it has,
+-- one of them, and whether it is frozen
+abbrev pub kind_at : ℕ → Action (Option Kind)
+kind_at number = see (λ nodes. kind_of nodes number)
+
+abbrev pub prototype_at : ℕ → Action (Option Value)
+prototype_at number = see (λ nodes. prototype_of nodes number)
+
+abbrev pub own_at : ℕ → List ℕ → Action (Option Value)
+own_at number key = see (λ nodes. own_value nodes number key)
+
+abbrev pub own_keys_at : ℕ → Action (List (List ℕ))
+own_keys_at number = see (λ nodes. own_keys_of nodes number)
+
+abbrev pub count_at : ℕ → Action ℕ
+count_at number = see (λ nodes. length (elements_of nodes number))
+
+abbrev pub element_at : ℕ → ℕ → Action (Option Value)
+element_at number place = see (λ nodes. slice_get (elements_of nodes number) place)
+
+abbrev pub frozen_at : ℕ → Action Bool
+frozen_at number = see (λ nodes. is_frozen nodes number)
 
 -- a node with other properties, and with other elements
 abbrev pub with_properties : (List Property → List Property) → Node → Node
@@ -137,34 +179,31 @@ push_element number value heap =
     then Stopped TooLong heap
     else Gave tt (with_nodes heap (with_more heap.nodes number value))
 
--- looking at the nodes of a heap
-abbrev pub see : {A : Type 0} → (List Node → A) → Action A
-see look heap = Gave (look heap.nodes) heap
-
--- changing them
-abbrev pub change : (List Node → List Node) → Action Unit
-change make heap = Gave tt (with_nodes heap (make heap.nodes))
+-- a node is changed, and nothing else
+abbrev pub change_at : (Node → Node) → ℕ → Action Unit
+change_at change number heap = Gave tt (with_nodes heap (changed change heap.nodes number))
 
 -- an element is written in its place
 abbrev pub set_element : ℕ → ℕ → Value → Action Unit
-set_element number place value = change (λ nodes. with_element nodes number place value)
+set_element number place value = change_at (with_elements (λ elements. slice_set elements place value)) number
 
 -- the last element is taken, if there is one
 abbrev pub pop_element : ℕ → Action (Option Value)
-pop_element number heap =
-    let elements = elements_of heap.nodes number in
-    Gave (slice_get elements (length elements - 1)) (with_nodes heap (with_fewer heap.nodes number))
+pop_element number =
+    count_at number >>= λ count. element_at number (count - 1) >>= λ last.
+    change_at (with_elements (λ elements. take (length elements - 1) elements)) number >>= λ _. give last
 
 -- a property is removed, if there is one
 abbrev pub remove_own : ℕ → List ℕ → Action Bool
-remove_own number key heap = Gave (is_some (own_value heap.nodes number key)) (with_nodes heap (without_own heap.nodes number key))
+remove_own number key =
+    own_at number key >>= λ found. change_at (with_properties (remove_under key)) number >>= λ _. give (is_some found)
 
 -- a node is frozen, and a resource closed
 abbrev pub freeze : ℕ → Action Unit
-freeze number = change (λ nodes. with_frozen nodes number)
+freeze number = change_at frozen_node number
 
 abbrev pub close : ℕ → Action Unit
-close number = change (λ nodes. with_closed nodes number)
+close number = change_at closed_node number
 
 -- a property is written in its place, if there is one, which it tells
 abbrev pub write_own : ℕ → List ℕ → Value → Action Bool
@@ -173,4 +212,19 @@ write_own number key value heap =
 
 -- an element is put behind those of a function or a scope, which have no limit
 abbrev pub add_element : ℕ → Value → Action Unit
-add_element number value = change (λ nodes. with_more nodes number value)
+add_element number value = change_at (with_elements (λ elements. elements ++ value ∷ [])) number
+
+-- elements are put behind those of a function or a scope, in order
+abbrev pub add_elements : ℕ → List Value → Action Unit
+add_elements number [] = give tt
+add_elements number (value ∷ rest) = add_element number value >>= λ _. add_elements number rest
+
+-- a function is made, which closes over a scope (ECMA-262, 10.2.3)
+abbrev pub make_function : ℕ → ℕ → Value → Action ℕ
+make_function script tree scope =
+    make (kind.Function script tree) (At FUNCTION_PROTOTYPE) >>= λ number. add_element number scope >>= λ _. give number
+
+-- a scope is made inside another, or inside none, with what its slots hold (9.1.2.2)
+abbrev pub make_scope : ScopeKind → Value → List Value → Action ℕ
+make_scope scope outer slots =
+    make (kind.Scope scope) outer >>= λ number. add_elements number slots >>= λ _. give number

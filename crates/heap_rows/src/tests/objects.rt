@@ -5,8 +5,7 @@ ghost use Rattle.snap_graph.specs.declared.kind.Kind.TheVariants.{Array, Native}
 ghost use Rattle.snap_graph.specs.Intrinsics.{IsNative};
 ghost use Rattle.snap_graph.specs.Lawful.{IsPrototype};
 ghost use Rattle.snap_graph.specs.Values.{IsValue};
-ghost use Rattle.spec_values.specs.Access.{kind_of};
-ghost use Rattle.spec_values.specs.Operations.{is_frozen};
+ghost use Rattle.spec_values.specs.Operations.{is_frozen, kind_of};
 
 use super::refused::Refused;
 use snap_graph::{Kind, Value};

@@ -1,5 +1,5 @@
 use Rattle.std.proofs.Common.{refl}
-use Rattle.snap_store.specs.Calls.{own_keys_of}
+use Rattle.spec_values.specs.Operations.{own_keys_of}
 use Rattle.snap_action.proofs.Follows.{unmet}
 use Rattle.snap_action.proofs.Growing.{see_grows}
 use Rattle.snap_action.proofs.looks.list_own_keys.Goals as goal

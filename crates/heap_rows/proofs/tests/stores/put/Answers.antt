@@ -1,6 +1,6 @@
 use Rattle.std.proofs.Common.{List, length, ap, sym, ◌∙◌}
 use Rattle.snap_graph.specs.declared.node.Node.{Node}
-use Rattle.spec_values.specs.Access.{kind_of}
+use Rattle.spec_values.specs.Operations.{kind_of}
 use Rattle.snap_store.specs.View.{View}
 use Rattle.spec_values.proofs.Changes.{length-changed}
 use Rattle.heap_rows.proofs.tests.stores.put.Goals as goal

@@ -1,7 +1,7 @@
 use Rattle.std.proofs.Common.{List, ap, sym, ◌∙◌}
 use Rattle.snap_graph.specs.declared.node.Node.{Node}
 use Rattle.snap_store.specs.View.{View}
-use Rattle.spec_values.specs.Access.{kind_of}
+use Rattle.spec_values.specs.Operations.{kind_of}
 use Rattle.heap_rows.proofs.tests.access.steps.put.Goals as goal
 
 pub put_own-requires-clause-element : goal.put_own-requires-clause-element
