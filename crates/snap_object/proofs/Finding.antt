@@ -14,7 +14,7 @@ use Rattle.spec_values.specs.Operations.{elements_of, kind_of}
 use Rattle.snap_action.specs.declared.fault.Abrupt.{Abrupt}
 use Rattle.snap_store.specs.declared.store.Store.{Ghosts}
 use Rattle.snap_action.specs.Gives.{Gives, Shows, as_is, standing}
-use Rattle.snap_object.specs.Parts.{element_read, looked_up, node_rest, outside, text_rest, unspelled}
+use Rattle.snap_object.specs.Parts.{element_read, looked_up, node_rest, nothing_owned, outside, text_rest, unspelled}
 use Rattle.snap_action.proofs.Follows.{alike, cut, grouped}
 use Rattle.snap_action.specs.declared.errors.ErrorKind.TheVariants.{TypeError}
 use Rattle.snap_action.proofs.Called.{error_is_there}
@@ -88,6 +88,14 @@ pub unspelled_so : {S H A R : Type 0} {store : Ghosts S H} {first last : S} {sho
 unspelled_so {A = A} {store = store} {first = first} {shows = shows} base {fault = fault} one =
     alike (unspelled base >>= λ done. stop {A = A} NotInProfile) (unspelled base) (λ keys. unspelled_alike base (standing (store.view first) keys))
     (cut shows fault (unspelled base) (λ done. stop NotInProfile) (λ done. stop_grows NotInProfile) one)
+
+-- what has no properties, in place of any answer
+pub nothing_so : {S H A R : Type 0} {store : Ghosts S H} {first last : S} {shows : Shows R A} (key : Value) {fault : Abrupt H}
+    → Gives {R = Unit {0}} store first last as_is (Err fault) (nothing_owned key) → Gives store first last shows (Err fault) (nothing_owned key)
+nothing_so {A = A} {store = store} {first = first} {shows = shows} key {fault = fault} one =
+    alike (nothing_owned key >>= λ done. stop {A = A} NotInProfile) (nothing_owned key)
+    (λ keys. grouped (named_key key (standing (store.view first) keys)) _ (λ done. stop {A = A} NotInProfile) _ (λ name heap. throws_alike TYPE_ERROR_PROTOTYPE (codes "no properties") heap))
+    (cut shows fault (nothing_owned key) (λ done. stop NotInProfile) (λ done. stop_grows NotInProfile) one)
 
 -- String.prototype is there
 pub string_is_there : (nodes : List Node) → IsLawful nodes → STRING_PROTOTYPE < length nodes

@@ -1,18 +1,19 @@
 -- Property access goes on from the heap in which it begins.
-use Rattle.std.proofs.Common.{ℕ, ◌==◌, true, nat_lt, pos, List, [], ◌∷◌, codes, length, slice_get, slice_set, Option, None, Some, is_some, Result, Ok, Err, if◌then◌else◌}
+use Rattle.std.proofs.Common.{ℕ, ◌==◌, Bool, true, nat_lt, pos, List, [], ◌∷◌, codes, length, slice_get, slice_set, Option, None, Some, is_some, Result, Ok, Err, if◌then◌else◌}
 use Rattle.std.specs.Str.{bytes_eq as text_eq}
 use Rattle.snap_base.specs.declared.stop.Stop.{Stop}
 use Rattle.snap_base.specs.declared.stop.Stop.TheVariants.{NotInProfile}
-use Rattle.snap_graph.specs.declared.intrinsic.TheConstants.{STRING_PROTOTYPE, TYPE_ERROR_PROTOTYPE}
+use Rattle.snap_graph.specs.declared.intrinsic.TheConstants.{REFERENCE_ERROR_PROTOTYPE, STRING_PROTOTYPE, TYPE_ERROR_PROTOTYPE}
 use Rattle.snap_graph.specs.declared.value.Value.{Value}
 use Rattle.snap_graph.specs.declared.value.Value.TheVariants.{Undefined, Null, Bool as Truth, Int, Text, Node as At, Empty}
 use Rattle.spec_values.specs.Access.{count_value, delete, delete_named, delete_of_node, delete_of_text, element_of, entry_count, found_or, get, get_of_node, get_of_text, index_of, is_length, is_size, is_special, look_up, may_write, named_key, not_writable, or_stop, or_undefined, reached_from, read_along, set, set_element_of, set_named, set_of_node, set_of_text, size_of, size_or_throw, unit_or_undefined}
 use Rattle.spec_values.specs.Answer.{◌>>=◌, Action, give, stop, use_key}
+use Rattle.spec_values.specs.Asking.{has_own, has_own_named, has_own_of_node, has_own_of_text}
 use Rattle.spec_values.specs.Conversions.{safe, text_of}
 use Rattle.spec_values.specs.Operations.{elements_of, is_frozen, kind_of, own_value, put_own, remove_own, with_elements}
 use Rattle.snap_action.proofs.Follows.{grows_then}
 use Rattle.snap_action.proofs.Growing.{Goes, by_heap_grows, change_grows, chosen_grows, error_grows, give_grows, or_stop_grows, push_grows, put_grows, remove_grows, stop_grows, use_grows}
-use Rattle.snap_object.specs.Parts.{found_from, is_kept, is_outside, looked_up, may_write_from, node_rest, outside, put_unless_frozen, refused, text_rest, without}
+use Rattle.snap_object.specs.Parts.{found_from, is_kept, is_outside, looked_up, may_write_from, node_rest, nothing_owned, outside, put_unless_frozen, refused, set_defined, text_rest, without}
 
 pub named_grows : (key : Value) → Goes (named_key key)
 named_grows key =
@@ -174,3 +175,31 @@ delete_grows (Int z) key = outside_grows key
 delete_grows (Text text) key = delete_of_text_grows key (index_of key)
 delete_grows (At number) key = by_heap_grows (λ heap. delete_of_node number key (element_of heap.nodes number key)) (λ heap. delete_of_node_grows number key (element_of heap.nodes number key))
 delete_grows Empty key = stop_grows NotInProfile
+
+-- tests of own properties
+pub has_own_named_grows : (number : ℕ) (name : List ℕ) → Goes (has_own_named number name)
+has_own_named_grows number name = record { on = λ heap. (chosen_grows (is_special (kind_of heap.nodes number) name) (stop NotInProfile) _ (stop_grows NotInProfile) (give_grows _)).on heap }
+
+nothing_owned_grows : (key : Value) → Goes (nothing_owned {A = Bool} key)
+nothing_owned_grows key = grows_then (named_key key) _ (named_grows key) (λ name. error_grows TYPE_ERROR_PROTOTYPE (codes "no properties"))
+
+has_own_of_text_grows : (text : List ℕ) (key : Value) (place : Option ℕ) → Goes (has_own_of_text text key place)
+has_own_of_text_grows text key (Some place) = give_grows (nat_lt place (length text))
+has_own_of_text_grows text key None = grows_then (named_key key) _ (named_grows key) (λ name. give_grows (text_eq name (codes "length")))
+
+has_own_of_node_grows : (number : ℕ) (key : Value) (place : Option ℕ) → Goes (has_own_of_node number key place)
+has_own_of_node_grows number key (Some place) = by_heap_grows (λ heap. give (nat_lt place (length (elements_of heap.nodes number)))) (λ heap. give_grows (nat_lt place (length (elements_of heap.nodes number))))
+has_own_of_node_grows number key None = grows_then (named_key key) (has_own_named number) (named_grows key) (has_own_named_grows number)
+
+pub has_own_grows : (base key : Value) → Goes (has_own base key)
+has_own_grows Undefined key = nothing_owned_grows key
+has_own_grows Null key = nothing_owned_grows key
+has_own_grows (Truth b) key = outside_grows key
+has_own_grows (Int z) key = outside_grows key
+has_own_grows (Text text) key = has_own_of_text_grows text key (index_of key)
+has_own_grows (At number) key = by_heap_grows (λ heap. has_own_of_node number key (element_of heap.nodes number key)) (λ heap. has_own_of_node_grows number key (element_of heap.nodes number key))
+has_own_grows Empty key = stop_grows NotInProfile
+
+-- writing a name of the global object
+pub set_defined_grows : (global : ℕ) (name : List ℕ) (value : Value) (there : Bool) → Goes (set_defined global name value there)
+set_defined_grows global name value there = chosen_grows there _ _ (set_named_grows global name value) (error_grows REFERENCE_ERROR_PROTOTYPE (codes "not defined"))

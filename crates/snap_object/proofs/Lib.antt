@@ -1,7 +1,8 @@
 pub mod Bases
 pub mod Chains
 pub mod Counting
-pub mod Finding
+pub mod Defined
+mod Finding
 pub mod Growing
 pub mod Looking
 pub mod Naming

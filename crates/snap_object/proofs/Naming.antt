@@ -13,9 +13,10 @@ use Rattle.snap_graph.specs.OwnKeys.{array_index, index_end}
 use Rattle.snap_store.specs.declared.store.Store.{Ghosts}
 use Rattle.snap_text.specs.declared.key.Key.{Key}
 use Rattle.snap_text.specs.Keys.{Keeps}
-use Rattle.spec_values.specs.Access.{delete, delete_named, delete_of_node, delete_of_text, element_of, get, get_of_node, get_of_text, index_of, is_array, named_key, not_writable, or_stop, set, set_named, set_of_node, set_of_text}
+use Rattle.spec_values.specs.Access.{delete, delete_named, delete_of_node, delete_of_text, element_of, get, get_of_node, get_of_text, index_of, is_array, named_key, no_properties, not_writable, or_stop, set, set_named, set_of_node, set_of_text}
 use Rattle.spec_values.specs.Operations.{kind_of}
 use Rattle.spec_values.specs.Answer.{Action, Heap, ◌>>=◌, give, stop, use_key}
+use Rattle.spec_values.specs.Asking.{has_own, has_own_named, has_own_of_node, has_own_of_text}
 use Rattle.spec_values.specs.Conversions.{text_of}
 use Rattle.spec_values.proofs.Naming.{IsNarrow, index_kept}
 use Rattle.snap_action.specs.declared.fault.Abrupt.TheVariants as abrupt
@@ -113,6 +114,23 @@ module _ (key : Value) (name : List ℕ) (text : text_of key ≡ Ok name) (index
       by None = ap (λ (named : Action (List ℕ)). (named >>= delete_named number) heap) same_name
   delete_same Empty heap = refl
 
+  pub has_own_same : (base : Value) (heap : Heap) → has_own base (Text name) heap ≡ has_own base key heap
+  has_own_same Undefined heap = sym (ap (λ (named : Action (List ℕ)). (named >>= λ _. no_properties) heap) same_name)
+  has_own_same Null heap = sym (ap (λ (named : Action (List ℕ)). (named >>= λ _. no_properties) heap) same_name)
+  has_own_same (Truth b) heap = sym (ap (λ (named : Action (List ℕ)). (named >>= λ _. stop NotInProfile) heap) same_name)
+  has_own_same (Int z) heap = sym (ap (λ (named : Action (List ℕ)). (named >>= λ _. stop NotInProfile) heap) same_name)
+  has_own_same (Text text) heap = sym (by (index_of key) ∙ ap (λ (place : Option ℕ). has_own_of_text text (Text name) place heap) index)
+    where
+      by : (place : Option ℕ) → has_own_of_text text key place heap ≡ has_own_of_text text (Text name) place heap
+      by (Some place) = refl
+      by None = ap (λ (named : Action (List ℕ)). (named >>= λ t. give (text_eq t (codes "length"))) heap) same_name
+  has_own_same (At number) heap = sym (by (element_of heap.nodes number key) ∙ ap (λ (place : Option ℕ). has_own_of_node number (Text name) place heap) (same_element heap.nodes number))
+    where
+      by : (place : Option ℕ) → has_own_of_node number key place heap ≡ has_own_of_node number (Text name) place heap
+      by (Some place) = refl
+      by None = ap (λ (named : Action (List ℕ)). (named >>= has_own_named number) heap) same_name
+  has_own_same Empty heap = refl
+
 -- a key without a text
 module _ (key : Value) (none : text_of key ≡ Err NotInProfile) where
   stops : {A : Type 0} (next : List ℕ → Action A) (heap : Heap) → (named_key key >>= next) heap ≡ stop NotInProfile heap
@@ -164,6 +182,15 @@ module _ (key : Value) (none : text_of key ≡ Err NotInProfile) where
   delete_unspelled (Text text) heap = sym (ap (λ (place : Option ℕ). delete_of_text key place heap) no_index ∙ stops (λ _. stop NotInProfile) heap)
   delete_unspelled (At number) heap = sym (ap (λ (place : Option ℕ). delete_of_node number key place heap) (no_element heap.nodes number) ∙ stops (delete_named number) heap)
   delete_unspelled Empty heap = refl
+
+  pub has_own_unspelled : (base : Value) (heap : Heap) → stop NotInProfile heap ≡ has_own base key heap
+  has_own_unspelled Undefined heap = sym (stops (λ _. no_properties) heap)
+  has_own_unspelled Null heap = sym (stops (λ _. no_properties) heap)
+  has_own_unspelled (Truth b) heap = sym (stops (λ _. stop NotInProfile) heap)
+  has_own_unspelled (Int z) heap = sym (stops (λ _. stop NotInProfile) heap)
+  has_own_unspelled (Text text) heap = sym (ap (λ (place : Option ℕ). has_own_of_text text key place heap) no_index ∙ stops (λ t. give (text_eq t (codes "length"))) heap)
+  has_own_unspelled (At number) heap = sym (ap (λ (place : Option ℕ). has_own_of_node number key place heap) (no_element heap.nodes number) ∙ stops (has_own_named number) heap)
+  has_own_unspelled Empty heap = refl
 
 -- a key is this value, whose text is known
 pub text_so : (key value : Value) (text : List ℕ) → key ≡ value → IsNarrow value → text_of value ≡ Ok text → (text_of key ≡ Ok text) × (index_of key ≡ array_index text)

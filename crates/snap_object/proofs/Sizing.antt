@@ -1,14 +1,21 @@
 -- Sizes of Maps and Sets that are read.
-use Rattle.std.proofs.Common.{◌≡◌, ℕ, Option, Result, refl, sym, ap, ◌∙◌}
+use Rattle.std.proofs.Common.{◌≡◌, ℕ, ◌<◌, ◌^◌, pos, Bool, Option, Result, Ok, Err, refl, sym, ap, ◌∙◌, if◌then◌else◌}
+use Rattle.std.proofs.lemmas.Bool.{lt-ltb}
+use Rattle.snap_base.specs.declared.stop.Stop.TheVariants.{NotSafeInteger}
 use Rattle.snap_graph.specs.declared.value.Value.{Value}
 use Rattle.snap_graph.specs.declared.value.Value.TheVariants.{Undefined, Null, Bool as Truth, Int, Text, Node as At, Empty}
 use Rattle.spec_values.specs.Access.{size_of, size_or_throw}
 use Rattle.spec_values.specs.Answer.{Heap}
+use Rattle.spec_values.specs.Conversions.{safe}
 use Rattle.snap_action.specs.declared.fault.Abrupt.{Abrupt}
 use Rattle.snap_store.specs.declared.store.Store.{Ghosts}
 use Rattle.snap_action.specs.Gives.{Gives, Shows, standing}
 use Rattle.snap_object.specs.Sizes.{entries_of}
 use Rattle.snap_action.proofs.Follows.{alike}
+
+-- a count that is a safe integer
+pub safe_count : (n : ℕ) → n < 2 ^ 53 → safe (pos n) ≡ Ok (Int (pos n))
+safe_count n below = ap (λ (b : Bool). if b then Ok (Int (pos n)) else Err NotSafeInteger) (lt-ltb n (2 ^ 53) below)
 
 size_is : (prototype : ℕ) (base : Value) (heap : Heap) → size_of prototype base heap ≡ size_or_throw (entries_of heap.nodes prototype base) heap
 size_is prototype Undefined heap = refl

@@ -6,8 +6,9 @@ use Rattle.snap_graph.specs.declared.intrinsic.TheConstants.{STRING_PROTOTYPE}
 use Rattle.snap_graph.specs.declared.node.Node.{Node}
 use Rattle.snap_graph.specs.declared.value.Value.{Value}
 use Rattle.snap_graph.specs.declared.value.Value.TheVariants.{Undefined, Null, Bool as Truth, Int, Node as At, Text, Empty}
-use Rattle.spec_values.specs.Access.{count_value, is_length, is_size, is_special, look_up, may_write, named_key, names_length, no_properties, not_writable, or_undefined, reached, reached_from, read_along}
+use Rattle.spec_values.specs.Access.{count_value, is_length, is_size, is_special, look_up, may_write, named_key, names_length, no_properties, not_writable, or_undefined, reached, reached_from, read_along, set_named, size_of}
 use Rattle.spec_values.specs.Answer.{◌>>=◌, Action, give, stop}
+use Rattle.spec_values.specs.Asking.{not_defined}
 use Rattle.snap_object.specs.declared.search.Found.{Found}
 use Rattle.snap_object.specs.declared.search.Found.TheVariants.{Special, Size, Own, Absent}
 use Rattle.spec_values.specs.Operations.{count_at, element_at, is_frozen, kind_at, kind_of, own_value, put_own, remove_own}
@@ -32,6 +33,22 @@ found_from base name from = reached from >>= λ numbers. look_up base name numbe
 
 abbrev pub looked_up : Value → List ℕ → ℕ → Action Value
 looked_up base name from = found_from base name from >>= λ found. give (or_undefined found)
+
+-- whether there is anything under a key from a node on
+abbrev pub defined_from : Value → List ℕ → ℕ → Action Bool
+defined_from base name from = found_from base name from >>= λ found. give (is_some found)
+
+-- a name of the global object is written, where it is there
+abbrev pub set_defined : ℕ → List ℕ → Value → Bool → Action Unit
+set_defined global name value there = if there then set_named global name value else not_defined
+
+-- a key is used, and what has no properties is asked for one
+abbrev pub nothing_owned : {A : Type 0} → Value → Action A
+nothing_owned key = named_key key >>= λ _. no_properties
+
+-- the size of a base, which is there
+abbrev pub size_found : ℕ → Value → Action (Option Value)
+size_found prototype base = size_of prototype base >>= λ size. give (Some size)
 
 -- reading an element
 abbrev pub element_read : ℕ → ℕ → Action Value

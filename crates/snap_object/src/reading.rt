@@ -1,6 +1,6 @@
 //! Reading a property.
 
-ghost use Rattle.std.specs.Prelude.{◌≡◌, ◌<◌, None, Some, IsSome, length, slice_get};
+ghost use Rattle.std.specs.Prelude.{◌≡◌, ◌<◌, None, Some, IsSome, OnOk, length, slice_get};
 ghost use Rattle.snap_action.specs.Gives.{Gives, as_held, as_some};
 ghost use Rattle.snap_action.specs.Names.{IsKnown};
 ghost use Rattle.snap_graph.specs.declared.intrinsic.TheConstants.{STRING_PROTOTYPE};
@@ -8,10 +8,10 @@ ghost use Rattle.snap_graph.specs.declared.value.Value.TheVariants.{Node as At, 
 ghost use Rattle.snap_graph.specs.OwnKeys.{array_index, index_end};
 ghost use Rattle.snap_graph.specs.Values.{IsPlace};
 ghost use Rattle.snap_object.specs.Names.{StaysKnown};
-ghost use Rattle.snap_object.specs.Parts.{element_read, found_from, looked_up, node_rest, text_rest};
+ghost use Rattle.snap_object.specs.Parts.{element_read, found_from, looked_up, node_rest, size_found, text_rest};
 ghost use Rattle.snap_store.specs.Calls.{text_units, units_in};
-ghost use Rattle.spec_values.specs.Access.{element_of, get, get_of_node, get_of_text, index_of, size_of, unit_or_undefined};
-ghost use Rattle.spec_values.specs.Answer.{◌>>=◌, give};
+ghost use Rattle.spec_values.specs.Access.{element_of, get, get_of_node, get_of_text, index_of, unit_or_undefined};
+ghost use Rattle.spec_values.specs.Answer.{give};
 
 use crate::errors::type_error;
 use crate::indices::{element_of, integer_index};
@@ -401,7 +401,8 @@ pub(crate) fn find_value<S: Store>(
     requires base { IsPlace (length (S.view store.old).nodes) base.now }
     requires number { from < length (S.view store.old).nodes }
     requires key { S.key_of store.old name.now ≡ Some key }
-    ensures { Gives S.Store store.old store.new (as_some (as_held S.Store store.new)) result (found_from base.now name.now from) }
+    ensures gives { Gives S.Store store.old store.new (as_some (as_held S.Store store.new)) result (found_from base.now name.now from) }
+    ensures view { OnOk result (S.view store.new ≡ S.view store.old) }
 {
     match find(store, from, name, key)? {
         Found::Special => Err(Abrupt::Stopped(Stop::NotInProfile)),
@@ -419,7 +420,8 @@ fn size_found<S: Store>(
     base: &Value,
 ) -> Result<Option<S::Held>, Abrupt<S::Held>>
     requires { IsPlace (length (S.view store.old).nodes) base.now }
-    ensures { Gives S.Store store.old store.new (as_some (as_held S.Store store.new)) result (size_of prototype base.now >>= λ size. give (Some size)) }
+    ensures gives { Gives S.Store store.old store.new (as_some (as_held S.Store store.new)) result (size_found prototype base.now) }
+    ensures view { OnOk result (S.view store.new ≡ S.view store.old) }
 {
     Ok(Some(size_of(alloc, store, prototype, base)?))
 }

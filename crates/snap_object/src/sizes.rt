@@ -1,6 +1,6 @@
 //! `size` of Maps and Sets.
 
-ghost use Rattle.std.specs.Prelude.{◌≡◌, ◌<◌, IfOk, count_by, length};
+ghost use Rattle.std.specs.Prelude.{◌≡◌, ◌<◌, IfOk, OnOk, count_by, length};
 ghost use Rattle.snap_graph.specs.Lawful.{record_keys};
 ghost use Rattle.snap_graph.specs.Values.{IsPlace};
 ghost use Rattle.snap_action.specs.Gives.{Gives, as_held};
@@ -23,7 +23,8 @@ pub(crate) fn size_of<S: Store>(
     base: &Value,
 ) -> Result<S::Held, Abrupt<S::Held>>
     requires { IsPlace (length (S.view store.old).nodes) base.now }
-    ensures { Gives S.Store store.old store.new (as_held S.Store store.new) result (size_of prototype base.now) }
+    ensures gives { Gives S.Store store.old store.new (as_held S.Store store.new) result (size_of prototype base.now) }
+    ensures view { OnOk result (S.view store.new ≡ S.view store.old) }
 {
     match entries_of(store, prototype, base)? {
         Some(count) => hold_count(store, count as usize),
@@ -36,7 +37,8 @@ pub(crate) fn hold_count<S: Store>(
     store: &mut S,
     count: usize,
 ) -> Result<S::Held, Abrupt<S::Held>>
-    ensures { Gives S.Store store.old store.new (as_held S.Store store.new) result (count_value count) }
+    ensures gives { Gives S.Store store.old store.new (as_held S.Store store.new) result (count_value count) }
+    ensures view { S.view store.new ≡ S.view store.old }
 {
     if count < 9_007_199_254_740_992 {
         hold_value(store, &Value::Int(count as i64))

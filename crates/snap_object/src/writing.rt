@@ -253,8 +253,8 @@ fn named_of_node<S: Store>(
     set_named(alloc, store, node, name.text(), key, held)
 }
 
-// Writes a property of a node under a name that was used, where it may be written.
-fn set_named<S: Store>(
+/// Writes a property of a node under a name that was used, where it may be written.
+pub(crate) fn set_named<S: Store>(
     alloc: Global,
     store: &mut S,
     node: u32,

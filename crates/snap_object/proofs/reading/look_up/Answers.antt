@@ -10,11 +10,11 @@ use Rattle.snap_object.proofs.reading.look_up.Goals as goal
 
 pub returns-in_err-find_value : goal.returns-in_err-find_value
 returns-in_err-find_value g c =
-    cut_off (found_from c.args.base.now c.args.name.now c.args.from) (λ found. give (or_undefined found)) (λ found. give_grows (or_undefined found)) c.in_err-find_value.ensures c.from_residual.result c.from_residual.ensures.1
+    cut_off (found_from c.args.base.now c.args.name.now c.args.from) (λ found. give (or_undefined found)) (λ found. give_grows (or_undefined found)) c.in_err-find_value.ensures.gives c.from_residual.result c.from_residual.ensures.1
 
 pub returns-in-Some : goal.returns-in-Some
 returns-in-Some g c =
-    let h = c.in_ok-find_value.ensures in
+    let h = c.in_ok-find_value.ensures.gives in
     let last = c.find_value.new.store in
     chained g.met.S.Store.later_still (λ a b text h. g.met.S.Store.keeps_left_out a b text h) (found_from c.args.base.now c.args.name.now c.args.from) (λ found. give (or_undefined found)) h
     (at_same (λ found. give (or_undefined (view_some (g.S.Store.meaning last) found))) (sym c.in-Some.is)
@@ -22,5 +22,5 @@ returns-in-Some g c =
 
 pub returns-in-None : goal.returns-in-None
 returns-in-None g c =
-    chained g.met.S.Store.later_still (λ a b text h. g.met.S.Store.keeps_left_out a b text h) (found_from c.args.base.now c.args.name.now c.args.from) (λ found. give (or_undefined found)) c.in_ok-find_value.ensures
+    chained g.met.S.Store.later_still (λ a b text h. g.met.S.Store.keeps_left_out a b text h) (found_from c.args.base.now c.args.name.now c.args.from) (λ found. give (or_undefined found)) c.in_ok-find_value.ensures.gives
     (at_same (λ found. give (or_undefined (view_some (g.S.Store.meaning c.find_value.new.store) found))) (sym c.in-None.is) c.hold_value.ensures.gives)

@@ -6,11 +6,11 @@ use Rattle.snap_object.proofs.Growing.{size_of_grows}
 use Rattle.snap_object.proofs.Sizing.{sized}
 use Rattle.snap_object.proofs.sizes.size_of.Goals as goal
 
-pub returns-in_err-count : goal.returns-in_err-count
-returns-in_err-count g c = unmet (record { view = refl; later = g.met.S.Store.at_once c.args.store.now }) (size_of_grows c.args.prototype c.args.base.now) c.from_residual.result c.from_residual.ensures.1
+pub returns-in_err-count-clause-gives : goal.returns-in_err-count-clause-gives
+returns-in_err-count-clause-gives g c = unmet (record { view = refl; later = g.met.S.Store.at_once c.args.store.now }) (size_of_grows c.args.prototype c.args.base.now) c.from_residual.result c.from_residual.ensures.1
 
-pub returns-in-Some : goal.returns-in-Some
-returns-in-Some g c = sized c.args.prototype c.args.base.now (Some c.in-Some.count) (c.in_ok-count.ensures ∙ c.in-Some.is) c.hold_count.ensures
+pub returns-in-Some-clause-gives : goal.returns-in-Some-clause-gives
+returns-in-Some-clause-gives g c = sized c.args.prototype c.args.base.now (Some c.in-Some.count) (c.in_ok-count.ensures ∙ c.in-Some.is) c.hold_count.ensures.gives
 
-pub returns-in-None : goal.returns-in-None
-returns-in-None g c = sized c.args.prototype c.args.base.now None (c.in_ok-count.ensures ∙ c.in-None.is) (threw TYPE_ERROR_PROTOTYPE (codes "wrong receiver") c.type_error.ensures)
+pub returns-in-None-clause-gives : goal.returns-in-None-clause-gives
+returns-in-None-clause-gives g c = sized c.args.prototype c.args.base.now None (c.in_ok-count.ensures ∙ c.in-None.is) (threw TYPE_ERROR_PROTOTYPE (codes "wrong receiver") c.type_error.ensures)
