@@ -2,6 +2,7 @@
 use Rattle.std.proofs.Common.{◌≡◌, ◌≢◌, ℕ, zero, suc, ◌<◌, inl, inr, ⊎_elim, AllPairs, List, [], ◌∷◌, length, map, get_or, slice_get, Option, None, Some, IfSome, sym, ap, subst, ◌∙◌, arith}
 use Rattle.std.proofs.lemmas.List.{length-map}
 use Rattle.std.proofs.lemmas.Option.{get_or_from_slice_get, slice_get_within}
+use Rattle.std.proofs.Math.ListN.{get_or-map}
 use Rattle.snap_graph.specs.declared.kind.Kind.{Kind}
 use Rattle.snap_graph.specs.declared.kind.Kind.TheVariants as kind
 use Rattle.snap_graph.specs.declared.node.Node.{Node}
@@ -13,7 +14,6 @@ use Rattle.snap_graph.specs.Values.{IsPlace, IsValue}
 use Rattle.snap_store.specs.declared.plain_node.PlainNode.{PlainNode}
 use Rattle.snap_store.specs.declared.plain_node.PlainProperty.{PlainProperty}
 use Rattle.snap_store.specs.declared.plain_node.PlainValue.{PlainValue}
-use Rattle.snap_store.proofs.Sorting.{read_map}
 use Rattle.snap_store.specs.Plain.{IsNodeWithin, IsOwn, IsWithin, node_in, property_in, value_in}
 
 nothing_at : (elements : List Value) (k : ℕ) → elements ≡ [] → k < length elements → ⊥
@@ -55,7 +55,7 @@ module _ (texts : List (List ℕ)) (nodes : List Node) (node : PlainNode) (lawfu
   owns_element k held below at = (
     subst (IsWithin texts) (sym at) (within.elements k held below),
     subst (λ (v : PlainValue). IsPlace (length nodes) (value_in texts v)) (sym at)
-        (subst (IsPlace (length nodes)) (read_map (value_in texts) node.elements.items k held)
+        (subst (IsPlace (length nodes)) (get_or-map (value_in texts) node.elements.items k held)
         (element_place (length nodes) node.kind (map (value_in texts) node.elements.items) lawful.elements k (value_in texts held) (omega (arith, length-map node.elements.items (value_in texts))))),
   )
 
@@ -63,7 +63,7 @@ module _ (texts : List (List ℕ)) (nodes : List Node) (node : PlainNode) (lawfu
   owns_property k property below at = (
     subst (λ (p : PlainProperty). IsWithin texts p.value) (sym at) (within.properties k property below),
     inr (subst (λ (p : PlainProperty). IsValue (length nodes) (value_in texts p.value)) (sym at)
-        (subst (λ (p : Property). IsValue (length nodes) p.value) (read_map (property_in texts) node.properties.items k property)
+        (subst (λ (p : Property). IsValue (length nodes) p.value) (get_or-map (property_in texts) node.properties.items k property)
         (lawful.values k (property_in texts property) (omega (arith, length-map node.properties.items (property_in texts)))))),
   )
 
@@ -71,7 +71,7 @@ module _ (texts : List (List ℕ)) (nodes : List Node) (node : PlainNode) (lawfu
   pub keys_apart : AllPairs (λ one other. one.key ≢ other.key) node.properties.items
   keys_apart i j d before below e =
       lawful.keys i j (property_in texts d) before (omega (arith, length-map node.properties.items (property_in texts)))
-      (ap (λ (p : Property). p.key) (read_map (property_in texts) node.properties.items i d) ∙ e ∙ sym (ap (λ (p : Property). p.key) (read_map (property_in texts) node.properties.items j d)))
+      (ap (λ (p : Property). p.key) (get_or-map (property_in texts) node.properties.items i d) ∙ e ∙ sym (ap (λ (p : Property). p.key) (get_or-map (property_in texts) node.properties.items j d)))
 
   pub owns_read : (count k : ℕ) (o : Option PlainValue) → count ≡ length nodes → o ≡ slice_get node.elements.items k → IfSome o (IsOwn texts count)
   owns_read count k None e read = tt

@@ -1,9 +1,10 @@
 -- Lists that rise by a number, and hold the same at each number in the same order, are one.
-use Rattle.std.proofs.Common.{◌≡◌, ◌≢◌, ℕ, zero, suc, ◌<◌, ◌≤◌, ◌==◌, ◌&&◌, Bool, true, false, not, cond, List, [], ◌∷◌, length, map, get_or, filter, refl, sym, ap, subst, ◌∙◌, ◌⊎◌, inl, inr, ⊎_elim, arith}
+use Rattle.std.proofs.Common.{◌≡◌, ◌≢◌, ℕ, zero, suc, ◌<◌, ◌≤◌, ◌==◌, ◌&&◌, Bool, true, false, not, cond, List, [], ◌∷◌, length, map, filter, refl, sym, ap, subst, ◌∙◌, ◌⊎◌, inl, inr, ⊎_elim, arith}
 use Rattle.std.specs.List.Sorted.{IsNonDecreasingBy}
 use Rattle.std.specs.Ordering.{is_lt, nat_cmp}
 use Rattle.std.proofs.lemmas.Bool.{cases_order, eq-eqb, le-ltb, lt-ltb, ne_eqb}
 use Rattle.std.proofs.lemmas.List.Sorted.{IsNonDecreasingBy-from_default}
+use Rattle.std.proofs.Math.ListN.{get_or-map}
 
 tail_rises : {X : Type 0} (n : X → ℕ) (x : X) (xs : List X) → IsNonDecreasingBy n (x ∷ xs) → IsNonDecreasingBy n xs
 tail_rises n x xs rises i j d le within = rises (suc i) (suc j) d (omega arith) (omega arith)
@@ -61,18 +62,13 @@ filter-map {X} {Y} f p (x ∷ xs) = by (filter-map f p xs) (p (f x)) refl
     by rest true e = rw e (ap (λ (ys : List Y). f x ∷ ys) rest)
     by rest false e = rw e rest
 
-pub read_map : {X Y : Type 0} (f : X → Y) (xs : List X) (k : ℕ) (d : X) → get_or (map f xs) k (f d) ≡ f (get_or xs k d)
-read_map f [] k d = refl
-read_map f (x ∷ xs) zero d = refl
-read_map f (x ∷ xs) (suc k) d = read_map f xs k d
-
 pub map-map : {X Y Z : Type 0} (f : X → Y) (g : Y → Z) (xs : List X) → map g (map f xs) ≡ map (λ x. g (f x)) xs
 map-map f g [] = refl
 map-map {X} {Y} {Z} f g (x ∷ xs) = ap (λ (zs : List Z). g (f x) ∷ zs) (map-map f g xs)
 
 pub map_rises : {X Y : Type 0} (f : X → Y) (n : Y → ℕ) (d : X) (xs : List X) → length (map f xs) ≡ length xs → IsNonDecreasingBy (λ x. n (f x)) xs → IsNonDecreasingBy n (map f xs)
 map_rises f n d xs len rises = IsNonDecreasingBy-from_default n (map f xs) (f d) (λ i j le within.
-    rw (read_map f xs i d, read_map f xs j d) (rises i j d le (omega arith)))
+    rw (get_or-map f xs i d, get_or-map f xs j d) (rises i j d le (omega arith)))
 
 -- those that neither precede nor follow a number are those at it
 pub ties_at : (p q : ℕ) → not (is_lt (nat_cmp p q)) && not (is_lt (nat_cmp q p)) ≡ (q == p)

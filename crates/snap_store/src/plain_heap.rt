@@ -1,8 +1,8 @@
 //! The texts and nodes of a plain store.
 #![tactic(auto, using(snap_arena::specs::Laws::extends_itself))]
 
-ghost use Rattle.std.specs.Coded.{le_prop};
 ghost use Rattle.std.specs.Prelude.{◌≤◌, ◌^◌, All, length};
+ghost use Rattle.std.specs.Coded.{le_prop};
 ghost use Rattle.snap_graph.specs.Lawful.{IsLawful};
 ghost use Rattle.snap_store.specs.Plain.{IsNodeWithin, nodes_in, nodes_within-prop};
 ghost use Rattle.snap_store.specs.Unique.{IsLawful-prop};
