@@ -1,0 +1,4 @@
+pub mod Keeping
+pub mod Sound
+pub mod Ending
+pub mod Reading
