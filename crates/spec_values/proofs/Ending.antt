@@ -3,15 +3,16 @@ use Rattle.std.proofs.Common.{◌≡◌, ℕ, zero, suc, ◌+◌, ◌&&◌, Bool
 use Rattle.snap_base.specs.declared.limits.TheConstants.{MOST_PRIVATE_NODES, MOST_PROPERTIES}
 use Rattle.snap_base.specs.declared.stop.Stop.{Stop}
 use Rattle.snap_base.specs.declared.stop.Stop.TheVariants.{TooLong, TooManyNodes}
+use Rattle.snap_graph.specs.declared.intrinsic.TheConstants.{REFERENCE_ERROR_PROTOTYPE, TYPE_ERROR_PROTOTYPE}
 use Rattle.snap_graph.specs.declared.kind.Kind.{Kind}
 use Rattle.snap_graph.specs.declared.kind.Kind.TheVariants as kind
 use Rattle.snap_graph.specs.declared.node.Node.{Node}
 use Rattle.snap_graph.specs.declared.value.Value.{Value}
 use Rattle.snap_graph.specs.declared.value.Value.TheVariants.{Text, Node as At}
 use Rattle.snap_graph.specs.Intrinsics.{constructors, error_prototype, host_objects, intrinsics, prototypes}
-use Rattle.snap_graph.specs.Lawful.{IsLawful, IsPrototype}
+use Rattle.snap_graph.specs.Lawful.{IsLawful, IsPrototype, is_scope}
 use Rattle.snap_graph.specs.Values.{IsValue}
-use Rattle.spec_values.specs.Access.{type_error}
+use Rattle.spec_values.specs.Access.{throw_error, type_error}
 use Rattle.spec_values.specs.Answer.{Action, HeapAnswer, Gave, Heap, Stopped, Threw, followed, throw_value}
 use Rattle.spec_values.specs.Leaving.{LeavesHeap}
 use Rattle.spec_values.specs.Operations.{make, new_node, own_value, properties_of, put_own, put_under, with_nodes, with_own, with_properties}
@@ -20,7 +21,7 @@ use Rattle.spec_values.proofs.Elements.{with_own_lawful}
 use Rattle.spec_values.proofs.Made.{made_lawful}
 
 -- a result has P, and every other end leaves a heap
-pub Ends : {A : Type 0} → (A → Heap → Type 0) → HeapAnswer A → Type 0
+unfoldable pub Ends : {A : Type 0} → (A → Heap → Type 0) → HeapAnswer A → Type 0
 Ends P (Gave a h) = P a h
 Ends P (Threw v h) = IsLawful h.nodes × IsValue (length h.nodes) v
 Ends P (Stopped why h) = IsLawful h.nodes
@@ -65,13 +66,21 @@ read_back [] (suc count) number node e = e
 read_back (first ∷ rest) (suc count) zero node e = e
 read_back (first ∷ rest) (suc count) (suc number) node e = read_back rest count number node e
 
-type_error_prototype : slice_get intrinsics 7 ≡ Some (error_prototype 16 (codes "TypeError"))
-unfolding intrinsics prototypes constructors host_objects
-type_error_prototype = refl
+-- an intrinsic that errors may have as their prototype
+pub IsErrorPrototype : ℕ → Type 0
+IsErrorPrototype number = (node : Node) × (slice_get intrinsics number ≡ Some node) × (is_scope node.kind ≡ false)
 
-error_may_be : (nodes : List Node) → IsLawful nodes → IsPrototype nodes kind.Error (At 7)
-error_may_be nodes lawful =
-    (error_prototype 16 (codes "TypeError"), read_back nodes 62 7 (error_prototype 16 (codes "TypeError")) (ap (λ (ns : List Node). slice_get ns 7) lawful.intrinsics ∙ type_error_prototype), refl)
+pub type_error_prototype : IsErrorPrototype TYPE_ERROR_PROTOTYPE
+unfolding IsErrorPrototype intrinsics prototypes constructors host_objects
+type_error_prototype = (error_prototype 16 (codes "TypeError"), refl, refl)
+
+pub reference_error_prototype : IsErrorPrototype REFERENCE_ERROR_PROTOTYPE
+unfolding IsErrorPrototype intrinsics prototypes constructors host_objects
+reference_error_prototype = (error_prototype 17 (codes "ReferenceError"), refl, refl)
+
+error_may_be : (prototype : ℕ) → IsErrorPrototype prototype → (nodes : List Node) → IsLawful nodes → IsPrototype nodes kind.Error (At prototype)
+unfolding IsErrorPrototype
+error_may_be prototype is nodes lawful = (is.0, read_back nodes 62 prototype is.0 (ap (λ (ns : List Node). slice_get ns prototype) lawful.intrinsics ∙ is.1), is.2)
 
 -- the last of nodes is read at their number
 pub read_last : (nodes : List Node) (node : Node) → slice_get (nodes ++ node ∷ []) (length nodes) ≡ Some node
@@ -98,12 +107,12 @@ make_ends own prototype heap lawful =
     (λ full. halted P TooManyNodes heap lawful)
 
 -- the error that was made gets its message, and is thrown
-message_ends : {A : Type 0} (Q : A → Heap → Type 0) (message : List ℕ) (nodes : List Node) (error : ℕ) (heap : Heap) → IsLawful nodes → error ≡ length nodes → heap.nodes ≡ nodes ++ new_node kind.Error (At 7) ∷ []
+message_ends : {A : Type 0} (Q : A → Heap → Type 0) (prototype : ℕ) → IsErrorPrototype prototype → (message : List ℕ) (nodes : List Node) (error : ℕ) (heap : Heap) → IsLawful nodes → error ≡ length nodes → heap.nodes ≡ nodes ++ new_node kind.Error (At prototype) ∷ []
     → Ends Q (followed (put_own error (codes "message") (Text message) heap) (λ done. throw_value (At error)))
-message_ends Q message nodes error heap lawful is_last is_more =
-    let node = new_node kind.Error (At 7) in
+message_ends Q prototype is message nodes error heap lawful is_last is_more =
+    let node = new_node kind.Error (At prototype) in
     let after = nodes ++ node ∷ [] in
-    let after_lawful : IsLawful after = made_lawful nodes kind.Error (At 7) lawful (error_may_be nodes lawful) (λ n e. absurd cc) in
+    let after_lawful : IsLawful after = made_lawful nodes kind.Error (At prototype) lawful (error_may_be prototype is nodes lawful) (λ n e. absurd cc) in
     let last : slice_get heap.nodes error ≡ Some node = ap (λ (ns : List Node). slice_get ns error) is_more ∙ ap (slice_get after) is_last ∙ read_last nodes node in
     let here_lawful : IsLawful heap.nodes = subst IsLawful (sym is_more) after_lawful in
     let put_lawful = with_own_lawful heap.nodes error node here_lawful last (codes "message") (Text message) refl tt (λ e. absurd cc) in
@@ -113,12 +122,15 @@ message_ends Q message nodes error heap lawful is_last is_more =
     (λ done h same. thrown Q (At error) h (subst IsLawful (sym same) put_lawful)
     (omega (arith, is_last, ap length is_more, length-append nodes (node ∷ []), ap length same, length-changed (with_properties (put_under (codes "message") (Text message))) heap.nodes error)))
 
--- a TypeError is made and thrown
+-- an error is made and thrown
+pub throws_of : {A : Type 0} (Q : A → Heap → Type 0) (prototype : ℕ) → IsErrorPrototype prototype → (message : List ℕ) (heap : Heap) → IsLawful heap.nodes → Ends Q (throw_error prototype message heap)
+throws_of Q prototype is message heap lawful =
+    ends_then (λ (number : ℕ) h. (number ≡ length heap.nodes) × (h.nodes ≡ heap.nodes ++ new_node kind.Error (At prototype) ∷ [])) Q (make kind.Error (At prototype) heap) _
+    (make_ends kind.Error (At prototype) heap lawful)
+    (λ error h made. message_ends Q prototype is message heap.nodes error (record { nodes = h.nodes; private_nodes = h.private_nodes; keys = h.keys ++ codes "message" ∷ [] }) lawful made.0 made.1)
+
 pub throws : {A : Type 0} (Q : A → Heap → Type 0) (message : List ℕ) (heap : Heap) → IsLawful heap.nodes → Ends Q (type_error message heap)
-throws Q message heap lawful =
-    ends_then (λ (number : ℕ) h. (number ≡ length heap.nodes) × (h.nodes ≡ heap.nodes ++ new_node kind.Error (At 7) ∷ [])) Q (make kind.Error (At 7) heap) _
-    (make_ends kind.Error (At 7) heap lawful)
-    (λ error h made. message_ends Q message heap.nodes error (record { nodes = h.nodes; private_nodes = h.private_nodes; keys = h.keys ++ codes "message" ∷ [] }) lawful made.0 made.1)
+throws Q message heap lawful = throws_of Q TYPE_ERROR_PROTOTYPE type_error_prototype message heap lawful
 
 -- a weaker fact of the result
 pub weaker : {A : Type 0} (P Q : A → Heap → Type 0) → ((a : A) (h : Heap) → P a h → Q a h) → (answer : HeapAnswer A) → Ends P answer → Ends Q answer

@@ -1,4 +1,5 @@
 pub mod Altered
+pub mod Arrays
 pub mod Changes
 pub mod Elements
 pub mod Ending

@@ -31,7 +31,7 @@ taken true x y a why e = (refl, e)
 taken false x y a why e = absurd cc
 
 -- what was found to be safe is
-safe_value : (count : ℕ) (z : ℤ) (v : Value) → safe z ≡ Ok v → IsValue count v
+pub safe_value : (count : ℕ) (z : ℤ) (v : Value) → safe z ≡ Ok v → IsValue count v
 safe_value count (pos n) v e =
     let t = taken (nat_lt n (2 ^ 53)) (Ok (Int (pos n))) (Ok (Int (pos n))) v _ e in
     subst (IsValue count) (let same : Int (pos n) ≡ v = cc in same) (ltb-true n (2 ^ 53) t.0)

@@ -12,14 +12,15 @@ use Rattle.snap_graph.specs.declared.node.Node.{Node}
 use Rattle.snap_graph.specs.declared.value.Property.{Property}
 use Rattle.snap_graph.specs.declared.value.Value.{Value}
 use Rattle.snap_graph.specs.declared.value.Value.TheVariants.{Undefined, Null, Bool as Truth, Int, Text, Node as At, Empty}
-use Rattle.spec_values.specs.Access.{delete, delete_named, delete_of_node, delete_of_text, element_of, entry_count, found_or, get, get_of_node, get_of_text, index_of, is_array, is_length, is_size, is_special, look_up, may_write, named_key, not_writable, or_stop, reached_from, set, set_element_of, set_named, set_of_node, set_of_text, size_of, size_or_throw, type_error}
-use Rattle.spec_values.specs.Answer.{Action, HeapAnswer, Gave, Heap, Stopped, Threw, followed, give, stop, throw_value}
-use Rattle.spec_values.specs.Conversions.{text_of}
+use Rattle.spec_values.specs.Access.{count_value, delete, delete_named, delete_of_node, delete_of_text, element_of, entry_count, found_or, get, get_of_node, get_of_text, index_of, is_array, is_length, is_size, is_special, look_up, may_write, named_key, no_properties, not_writable, or_stop, or_undefined, reached_from, read_along, set, set_element_of, set_named, set_of_node, set_of_text, size_of, size_or_throw, throw_error, type_error}
+use Rattle.spec_values.specs.Answer.{◌>>=◌, Action, HeapAnswer, Gave, Heap, Stopped, Threw, followed, give, stop, throw_value}
+use Rattle.spec_values.specs.Asking.{find_global, has_own, has_own_named, has_own_of_node, has_own_of_text, not_defined, set_global}
+use Rattle.spec_values.specs.Conversions.{safe, text_of}
 use Rattle.spec_values.specs.Leaving.{LeavesNodes, StandStill}
 use Rattle.spec_values.specs.Operations.{changed, elements_of, is_frozen, kind_of, make, new_node, own_value, properties_of, push_element, put_own, put_under, remove_under, with_element, with_elements, with_more, with_nodes, with_own, with_properties, without_own}
+use Rattle.spec_values.proofs.Arrays.{an_array_as, array_node}
 use Rattle.spec_values.proofs.Changes.{changed_elsewhere, changed_here, length-changed}
 use Rattle.spec_values.proofs.Made.{read_before}
-use Rattle.spec_values.proofs.Writing.{an_array_as, array_node}
 
 still : (nodes : List Node) → StandStill nodes nodes
 still nodes = record { count = omega arith; each = λ number node e. (node, e, refl, refl, λ other. refl) }
@@ -78,14 +79,17 @@ module _ (nodes : List Node) where
       chosen (not (is_some (own_value heap.nodes number name)) && nat_le MOST_PROPERTIES (length (properties_of heap.nodes number))) (Stopped TooLong heap) (Gave tt (with_nodes heap (with_own heap.nodes number name held)))
       s (further nodes heap.nodes (with_own heap.nodes number name held) s (properties_still (put_under name held) heap.nodes number))
 
-  throws_still : (A : Type 0) (message : List ℕ) (heap : Heap) → StandStill nodes heap.nodes → LeavesNodes {A = A} nodes (type_error message heap)
-  throws_still A message heap s =
-      let more = further nodes heap.nodes (heap.nodes ++ new_node kind.Error (At 7) ∷ []) s (one_more heap.nodes (new_node kind.Error (At 7))) in
-      then_still (make kind.Error (At 7) heap) _
-      (chosen (nat_lt heap.private_nodes MOST_PRIVATE_NODES) (Gave (length heap.nodes) (record { nodes = heap.nodes ++ new_node kind.Error (At 7) ∷ []; private_nodes = heap.private_nodes + 1; keys = heap.keys })) (Stopped TooManyNodes heap) more s)
+  throws_of_still : (A : Type 0) (prototype : ℕ) (message : List ℕ) (heap : Heap) → StandStill nodes heap.nodes → LeavesNodes {A = A} nodes (throw_error prototype message heap)
+  throws_of_still A prototype message heap s =
+      let more = further nodes heap.nodes (heap.nodes ++ new_node kind.Error (At prototype) ∷ []) s (one_more heap.nodes (new_node kind.Error (At prototype))) in
+      then_still (make kind.Error (At prototype) heap) _
+      (chosen (nat_lt heap.private_nodes MOST_PRIVATE_NODES) (Gave (length heap.nodes) (record { nodes = heap.nodes ++ new_node kind.Error (At prototype) ∷ []; private_nodes = heap.private_nodes + 1; keys = heap.keys })) (Stopped TooManyNodes heap) more s)
       (λ error h here.
       let used : Heap = record { nodes = h.nodes; private_nodes = h.private_nodes; keys = h.keys ++ codes "message" ∷ [] } in
       then_still (put_own error (codes "message") (Text message) used) (λ put. throw_value (At error)) (put_still error (codes "message") (Text message) used here) (λ put h3 there. there))
+
+  throws_still : (A : Type 0) (message : List ℕ) (heap : Heap) → StandStill nodes heap.nodes → LeavesNodes {A = A} nodes (type_error message heap)
+  throws_still A message heap s = throws_of_still A 7 message heap s
 
   refuses_still : (A : Type 0) (heap : Heap) → StandStill nodes heap.nodes → LeavesNodes {A = A} nodes (not_writable heap)
   refuses_still A heap s = throws_still A (codes "not writable") heap s
@@ -102,9 +106,16 @@ module _ (nodes : List Node) where
       by (Ok name) = judged name (text_eq name (codes "__proto__")) (record { nodes = heap.nodes; private_nodes = heap.private_nodes; keys = heap.keys ++ name ∷ [] }) s
       by (Err why) = s
 
+  count_still : (n : ℕ) (heap : Heap) → StandStill nodes heap.nodes → LeavesNodes nodes (count_value n heap)
+  count_still n heap s = by (safe (pos n))
+    where
+      by : (result : Result Value Stop) → LeavesNodes nodes (or_stop result heap)
+      by (Ok value) = s
+      by (Err why) = s
+
   size_still : (found : Option ℕ) (heap : Heap) → StandStill nodes heap.nodes → LeavesNodes nodes (size_or_throw found heap)
   size_still None heap s = throws_still Value (codes "wrong receiver") heap s
-  size_still (Some n) heap s = s
+  size_still (Some n) heap s = count_still n heap s
 
   size_of_still : (prototype : ℕ) (base : Value) (heap : Heap) → StandStill nodes heap.nodes → LeavesNodes nodes (size_of prototype base heap)
   size_of_still prototype Undefined heap s = size_still None heap s
@@ -115,7 +126,7 @@ module _ (nodes : List Node) where
   size_of_still prototype (At node) heap s = size_still (entry_count prototype (kind_of heap.nodes node) (elements_of heap.nodes node)) heap s
   size_of_still prototype Empty heap s = size_still None heap s
 
-  found_still : (found : Option Value) (on : Action Value) (heap : Heap) → StandStill nodes heap.nodes → LeavesNodes nodes (on heap) → LeavesNodes nodes (found_or found on heap)
+  found_still : (found : Option Value) (on : Action (Option Value)) (heap : Heap) → StandStill nodes heap.nodes → LeavesNodes nodes (on heap) → LeavesNodes nodes (found_or found on heap)
   found_still None on heap s more = more
   found_still (Some held) on heap s more = s
 
@@ -124,8 +135,12 @@ module _ (nodes : List Node) where
   look_up_still base name (number ∷ rest) heap s =
       let more = look_up_still base name rest heap s in
       done (is_special (kind_of heap.nodes number) name) (stop NotInProfile) _ heap s
-      (done (is_size number name) (size_of number base) (found_or (own_value heap.nodes number name) (look_up base name rest)) heap
-      (size_of_still number base heap s) (found_still (own_value heap.nodes number name) (look_up base name rest) heap s more))
+      (done (is_size number name) (size_of number base >>= λ size. give (Some size)) (found_or (own_value heap.nodes number name) (look_up base name rest)) heap
+      (then_still (size_of number base heap) (λ size. give (Some size)) (size_of_still number base heap s) (λ size h here. here))
+      (found_still (own_value heap.nodes number name) (look_up base name rest) heap s more))
+
+  along_still : (base : Value) (name numbers : List ℕ) (heap : Heap) → StandStill nodes heap.nodes → LeavesNodes nodes (read_along base name numbers heap)
+  along_still base name numbers heap s = then_still (look_up base name numbers heap) (λ found. give (or_undefined found)) (look_up_still base name numbers heap s) (λ found h here. here)
 
   may_write_still : (name numbers : List ℕ) (heap : Heap) → StandStill nodes heap.nodes → LeavesNodes nodes (may_write name numbers heap)
   may_write_still name [] heap s = s
@@ -169,13 +184,13 @@ module _ (nodes : List Node) where
   text_get_still : (text : List ℕ) (key : Value) (place : Option ℕ) (heap : Heap) → StandStill nodes heap.nodes → LeavesNodes nodes (get_of_text text key place heap)
   text_get_still text key (Some place) heap s = s
   text_get_still text key None heap s =
-      then_still (named_key key heap) _ (named_still key heap s) (λ name h here. done (text_eq name (codes "length")) (give (Int (pos (length text)))) (look_up (Text text) name (reached_from h.nodes 3)) h here (look_up_still (Text text) name (reached_from h.nodes 3) h here))
+      then_still (named_key key heap) _ (named_still key heap s) (λ name h here. done (text_eq name (codes "length")) (count_value (length text)) (read_along (Text text) name (reached_from h.nodes 3)) h (count_still (length text) h here) (along_still (Text text) name (reached_from h.nodes 3) h here))
 
   node_get_still : (number : ℕ) (key : Value) (place : Option ℕ) (heap : Heap) → StandStill nodes heap.nodes → LeavesNodes nodes (get_of_node number key place heap)
   node_get_still number key (Some place) heap s = s
   node_get_still number key None heap s =
       then_still (named_key key heap) _ (named_still key heap s)
-      (λ name h here. done (is_length h.nodes number name) (give (Int (pos (length (elements_of h.nodes number))))) (look_up (At number) name (reached_from h.nodes number)) h here (look_up_still (At number) name (reached_from h.nodes number) h here))
+      (λ name h here. done (is_length h.nodes number name) (count_value (length (elements_of h.nodes number))) (read_along (At number) name (reached_from h.nodes number)) h (count_still (length (elements_of h.nodes number)) h here) (along_still (At number) name (reached_from h.nodes number) h here))
 
   text_set_still : (key : Value) (place : Option ℕ) (heap : Heap) → StandStill nodes heap.nodes → LeavesNodes nodes (set_of_text key place heap)
   text_set_still key (Some place) heap s = refuses_still Unit heap s
@@ -192,6 +207,29 @@ module _ (nodes : List Node) where
   text_delete_still : (key : Value) (place : Option ℕ) (heap : Heap) → StandStill nodes heap.nodes → LeavesNodes nodes (delete_of_text key place heap)
   text_delete_still key (Some place) heap s = s
   text_delete_still key None heap s = outside_still Bool key heap s
+
+  global_still : (global : ℕ) (text : List ℕ) (heap : Heap) → StandStill nodes heap.nodes → LeavesNodes nodes (find_global global text heap)
+  global_still global text heap s =
+      then_still (named_key (Text text) heap) _ (named_still (Text text) heap s) (λ name h here. look_up_still (At global) name (reached_from h.nodes global) h here)
+
+  global_set_still : (global : ℕ) (name : List ℕ) (held : Value) (heap : Heap) → StandStill nodes heap.nodes → LeavesNodes nodes (set_global global name held heap)
+  global_set_still global name held heap s =
+      then_still (look_up (At global) name (reached_from heap.nodes global) heap) _ (look_up_still (At global) name (reached_from heap.nodes global) heap s)
+      (λ found h here. done (is_some found) (set_named global name held) not_defined h (set_named_still global name held h here) (throws_of_still Unit 8 (codes "not defined") h here))
+
+  own_named_still : (number : ℕ) (name : List ℕ) (heap : Heap) → StandStill nodes heap.nodes → LeavesNodes nodes (has_own_named number name heap)
+  own_named_still number name heap s = done (is_special (kind_of heap.nodes number) name) (stop NotInProfile) _ heap s s
+
+  own_nothing_still : (key : Value) (heap : Heap) → StandStill nodes heap.nodes → LeavesNodes nodes (followed {B = Bool} (named_key key heap) (λ name. no_properties))
+  own_nothing_still key heap s = then_still (named_key key heap) (λ name. no_properties) (named_still key heap s) (λ name h here. throws_still Bool (codes "no properties") h here)
+
+  own_text_still : (text : List ℕ) (key : Value) (place : Option ℕ) (heap : Heap) → StandStill nodes heap.nodes → LeavesNodes nodes (has_own_of_text text key place heap)
+  own_text_still text key (Some place) heap s = s
+  own_text_still text key None heap s = then_still (named_key key heap) _ (named_still key heap s) (λ name h here. here)
+
+  own_node_still : (number : ℕ) (key : Value) (place : Option ℕ) (heap : Heap) → StandStill nodes heap.nodes → LeavesNodes nodes (has_own_of_node number key place heap)
+  own_node_still number key (Some place) heap s = s
+  own_node_still number key None heap s = then_still (named_key key heap) (λ name. has_own_named number name) (named_still key heap s) (λ name h here. own_named_still number name h here)
 
 pub get_still : (base key : Value) (heap : Heap) → LeavesNodes heap.nodes (get base key heap)
 get_still Undefined key heap = throws_still heap.nodes Value (codes "no properties") heap (still heap.nodes)
@@ -219,3 +257,18 @@ delete_still (Int z) key heap = outside_still heap.nodes Bool key heap (still he
 delete_still (Text text) key heap = text_delete_still heap.nodes key (index_of key) heap (still heap.nodes)
 delete_still (At number) key heap = node_delete_still heap.nodes number key (element_of heap.nodes number key) heap (still heap.nodes)
 delete_still Empty key heap = still heap.nodes
+
+pub has_own_still : (base key : Value) (heap : Heap) → LeavesNodes heap.nodes (has_own base key heap)
+has_own_still Undefined key heap = own_nothing_still heap.nodes key heap (still heap.nodes)
+has_own_still Null key heap = own_nothing_still heap.nodes key heap (still heap.nodes)
+has_own_still (Truth b) key heap = outside_still heap.nodes Bool key heap (still heap.nodes)
+has_own_still (Int z) key heap = outside_still heap.nodes Bool key heap (still heap.nodes)
+has_own_still (Text text) key heap = own_text_still heap.nodes text key (index_of key) heap (still heap.nodes)
+has_own_still (At number) key heap = own_node_still heap.nodes number key (element_of heap.nodes number key) heap (still heap.nodes)
+has_own_still Empty key heap = still heap.nodes
+
+pub find_global_still : (global : ℕ) (text : List ℕ) (heap : Heap) → LeavesNodes heap.nodes (find_global global text heap)
+find_global_still global text heap = global_still heap.nodes global text heap (still heap.nodes)
+
+pub set_global_still : (global : ℕ) (name : List ℕ) (held : Value) (heap : Heap) → LeavesNodes heap.nodes (set_global global name held heap)
+set_global_still global name held heap = global_set_still heap.nodes global name held heap (still heap.nodes)

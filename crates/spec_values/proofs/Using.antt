@@ -11,11 +11,12 @@ use Rattle.snap_graph.specs.declared.kind.Kind.TheVariants as kind
 use Rattle.snap_graph.specs.declared.node.Node.{Node}
 use Rattle.snap_graph.specs.declared.value.Value.{Value}
 use Rattle.snap_graph.specs.declared.value.Value.TheVariants.{Undefined, Null, Bool as Truth, Int, Text, Node as At, Empty}
-use Rattle.spec_values.specs.Access.{delete, delete_named, delete_of_node, delete_of_text, element_of, entry_count, found_or, get, get_of_node, get_of_text, index_of, is_length, is_size, is_special, look_up, may_write, named_key, not_writable, or_stop, reached_from, set, set_element_of, set_named, set_of_node, set_of_text, size_of, size_or_throw, type_error}
-use Rattle.spec_values.specs.Answer.{Action, HeapAnswer, Gave, Heap, Stopped, Threw, followed, give, stop, throw_value}
-use Rattle.spec_values.specs.Conversions.{text_of}
+use Rattle.spec_values.specs.Access.{count_value, delete, delete_named, delete_of_node, delete_of_text, element_of, entry_count, found_or, get, get_of_node, get_of_text, index_of, is_length, is_size, is_special, look_up, may_write, named_key, no_properties, not_writable, or_stop, or_undefined, reached_from, read_along, set, set_element_of, set_named, set_of_node, set_of_text, size_of, size_or_throw, throw_error, type_error}
+use Rattle.spec_values.specs.Answer.{◌>>=◌, Action, HeapAnswer, Gave, Heap, Stopped, Threw, followed, give, stop, throw_value}
+use Rattle.spec_values.specs.Asking.{find_global, has_own, has_own_named, has_own_of_node, has_own_of_text, not_defined, set_global}
+use Rattle.spec_values.specs.Conversions.{safe, text_of}
 use Rattle.spec_values.specs.Operations.{elements_of, is_frozen, kind_of, new_node, own_value, properties_of, push_element, put_own, with_element, with_more, with_nodes, with_own, without_own}
-use Rattle.spec_values.specs.Uses.{HasUsed, text_used, used_by, used_unless}
+use Rattle.spec_values.specs.Uses.{HasUsed, text_used, used_by, used_by_test, used_unless}
 use Rattle.spec_values.proofs.Ending.{read_last}
 
 module _ (keys : List (List ℕ)) where
@@ -32,10 +33,10 @@ module _ (keys : List (List ℕ)) where
   then_used (Threw v h) next e f = e
   then_used (Stopped why h) next e f = e
 
-  -- a TypeError uses `message` behind
-  message_used : (A : Type 0) (message : List ℕ) (error : ℕ) (heap : Heap) → heap.keys ≡ keys ++ codes "message" ∷ [] → slice_get heap.nodes error ≡ Some (new_node kind.Error (At 7))
+  -- an error that is thrown uses `message` behind
+  message_used : (A : Type 0) (prototype : ℕ) (message : List ℕ) (error : ℕ) (heap : Heap) → heap.keys ≡ keys ++ codes "message" ∷ [] → slice_get heap.nodes error ≡ Some (new_node kind.Error (At prototype))
       → HasUsed keys (followed {B = A} (put_own error (codes "message") (Text message) heap) (λ put. throw_value (At error)))
-  message_used A message error heap used last =
+  message_used A prototype message error heap used last =
       let few : nat_le MOST_PROPERTIES (length (properties_of heap.nodes error)) ≡ false = ap (λ (found : Option Node). nat_le MOST_PROPERTIES (length (option_map_or (λ node. node.properties) found []))) last in
       put_room A (not (is_some (own_value heap.nodes error (codes "message")))) (nat_le MOST_PROPERTIES (length (properties_of heap.nodes error))) few
     where
@@ -45,23 +46,33 @@ module _ (keys : List (List ℕ)) where
       put_room A true false e = used
       put_room A false c e = used
 
-  throws_used : (A : Type 0) (message : List ℕ) (heap : Heap) → heap.keys ≡ keys → HasUsed {A = A} keys (type_error message heap)
-  throws_used A message heap used = by (nat_lt heap.private_nodes MOST_PRIVATE_NODES)
+  throws_of_used : (A : Type 0) (prototype : ℕ) (message : List ℕ) (heap : Heap) → heap.keys ≡ keys → HasUsed {A = A} keys (throw_error prototype message heap)
+  throws_of_used A prototype message heap used = by (nat_lt heap.private_nodes MOST_PRIVATE_NODES)
     where
-      by : (b : Bool) → HasUsed {A = A} keys (followed (if b then Gave (length heap.nodes) (record { nodes = heap.nodes ++ new_node kind.Error (At 7) ∷ []; private_nodes = heap.private_nodes + 1; keys = heap.keys }) else Stopped TooManyNodes heap)
+      by : (b : Bool) → HasUsed {A = A} keys (followed (if b then Gave (length heap.nodes) (record { nodes = heap.nodes ++ new_node kind.Error (At prototype) ∷ []; private_nodes = heap.private_nodes + 1; keys = heap.keys }) else Stopped TooManyNodes heap)
           (λ error h. followed (put_own error (codes "message") (Text message) (record { nodes = h.nodes; private_nodes = h.private_nodes; keys = h.keys ++ codes "message" ∷ [] })) (λ put. throw_value (At error))))
       by true =
-          message_used A message (length heap.nodes) (record { nodes = heap.nodes ++ new_node kind.Error (At 7) ∷ []; private_nodes = heap.private_nodes + 1; keys = heap.keys ++ codes "message" ∷ [] })
-          (ap (λ (ks : List (List ℕ)). ks ++ codes "message" ∷ []) used) (read_last heap.nodes (new_node kind.Error (At 7)))
+          message_used A prototype message (length heap.nodes) (record { nodes = heap.nodes ++ new_node kind.Error (At prototype) ∷ []; private_nodes = heap.private_nodes + 1; keys = heap.keys ++ codes "message" ∷ [] })
+          (ap (λ (ks : List (List ℕ)). ks ++ codes "message" ∷ []) used) (read_last heap.nodes (new_node kind.Error (At prototype)))
       by false = used
+
+  throws_used : (A : Type 0) (message : List ℕ) (heap : Heap) → heap.keys ≡ keys → HasUsed {A = A} keys (type_error message heap)
+  throws_used A message heap used = throws_of_used A 7 message heap used
 
   refuses_used : (A : Type 0) (heap : Heap) → heap.keys ≡ keys → HasUsed {A = A} keys (not_writable heap)
   refuses_used A heap used = throws_used A (codes "not writable") heap used
 
   -- looking up
+  count_used : (n : ℕ) (heap : Heap) → heap.keys ≡ keys → HasUsed keys (count_value n heap)
+  count_used n heap used = by (safe (pos n))
+    where
+      by : (result : Result Value Stop) → HasUsed keys (or_stop result heap)
+      by (Ok value) = used
+      by (Err why) = used
+
   size_used : (found : Option ℕ) (heap : Heap) → heap.keys ≡ keys → HasUsed keys (size_or_throw found heap)
   size_used None heap used = throws_used Value (codes "wrong receiver") heap used
-  size_used (Some n) heap used = used
+  size_used (Some n) heap used = count_used n heap used
 
   size_of_used : (prototype : ℕ) (base : Value) (heap : Heap) → heap.keys ≡ keys → HasUsed keys (size_of prototype base heap)
   size_of_used prototype Undefined heap used = size_used None heap used
@@ -72,7 +83,7 @@ module _ (keys : List (List ℕ)) where
   size_of_used prototype (At node) heap used = size_used (entry_count prototype (kind_of heap.nodes node) (elements_of heap.nodes node)) heap used
   size_of_used prototype Empty heap used = size_used None heap used
 
-  found_used : (found : Option Value) (further : Action Value) (heap : Heap) → heap.keys ≡ keys → HasUsed keys (further heap) → HasUsed keys (found_or found further heap)
+  found_used : (found : Option Value) (further : Action (Option Value)) (heap : Heap) → heap.keys ≡ keys → HasUsed keys (further heap) → HasUsed keys (found_or found further heap)
   found_used None further heap used more = more
   found_used (Some held) further heap used more = used
 
@@ -81,8 +92,12 @@ module _ (keys : List (List ℕ)) where
   look_up_used base name (number ∷ rest) heap used =
       let more = look_up_used base name rest heap used in
       done (is_special (kind_of heap.nodes number) name) (stop NotInProfile) _ heap used
-      (done (is_size number name) (size_of number base) (found_or (own_value heap.nodes number name) (look_up base name rest)) heap
-      (size_of_used number base heap used) (found_used (own_value heap.nodes number name) (look_up base name rest) heap used more))
+      (done (is_size number name) (size_of number base >>= λ size. give (Some size)) (found_or (own_value heap.nodes number name) (look_up base name rest)) heap
+      (then_used (size_of number base heap) (λ size. give (Some size)) (size_of_used number base heap used) (λ size h here. here))
+      (found_used (own_value heap.nodes number name) (look_up base name rest) heap used more))
+
+  along_used : (base : Value) (name numbers : List ℕ) (heap : Heap) → heap.keys ≡ keys → HasUsed keys (read_along base name numbers heap)
+  along_used base name numbers heap used = then_used (look_up base name numbers heap) (λ found. give (or_undefined found)) (look_up_used base name numbers heap used) (λ found h here. here)
 
   may_write_used : (name numbers : List ℕ) (heap : Heap) → heap.keys ≡ keys → HasUsed keys (may_write name numbers heap)
   may_write_used name [] heap used = used
@@ -151,15 +166,15 @@ get_uses (Text text) key heap = by (index_of key)
     by : (place : Option ℕ) → HasUsed (heap.keys ++ used_unless place (text_used (text_of key))) (get_of_text text key place heap)
     by (Some place) = sym (append-nil heap.keys)
     by None = named_used key heap _ (λ name h used.
-        done (heap.keys ++ text_used (text_of key)) (text_eq name (codes "length")) (give (Int (pos (length text)))) (look_up (Text text) name (reached_from h.nodes 3)) h used
-        (look_up_used (heap.keys ++ text_used (text_of key)) (Text text) name (reached_from h.nodes 3) h used))
+        done (heap.keys ++ text_used (text_of key)) (text_eq name (codes "length")) (count_value (length text)) (read_along (Text text) name (reached_from h.nodes 3)) h (count_used (heap.keys ++ text_used (text_of key)) (length text) h used)
+        (along_used (heap.keys ++ text_used (text_of key)) (Text text) name (reached_from h.nodes 3) h used))
 get_uses (At number) key heap = by (element_of heap.nodes number key)
   where
     by : (place : Option ℕ) → HasUsed (heap.keys ++ used_unless place (text_used (text_of key))) (get_of_node number key place heap)
     by (Some place) = sym (append-nil heap.keys)
     by None = named_used key heap _ (λ name h used.
-        done (heap.keys ++ text_used (text_of key)) (is_length h.nodes number name) (give (Int (pos (length (elements_of h.nodes number))))) (look_up (At number) name (reached_from h.nodes number)) h used
-        (look_up_used (heap.keys ++ text_used (text_of key)) (At number) name (reached_from h.nodes number) h used))
+        done (heap.keys ++ text_used (text_of key)) (is_length h.nodes number name) (count_value (length (elements_of h.nodes number))) (read_along (At number) name (reached_from h.nodes number)) h (count_used (heap.keys ++ text_used (text_of key)) (length (elements_of h.nodes number)) h used)
+        (along_used (heap.keys ++ text_used (text_of key)) (At number) name (reached_from h.nodes number) h used))
 get_uses Empty key heap = sym (append-nil heap.keys)
 
 refused_uses : (key : Value) (heap : Heap) → HasUsed (heap.keys ++ text_used (text_of key)) (followed (named_key key heap) (λ name. not_writable {A = Unit}))
@@ -198,3 +213,35 @@ delete_uses (At number) key heap = by (element_of heap.nodes number key)
     by (Some place) = sym (append-nil heap.keys)
     by None = named_used key heap (λ name. delete_named number name) (λ name h used. delete_named_used (heap.keys ++ text_used (text_of key)) number name h used)
 delete_uses Empty key heap = sym (append-nil heap.keys)
+
+-- a name of a global object is looked for with one use of its key, and written with none
+pub find_global_uses : (global : ℕ) (text : List ℕ) (heap : Heap) → HasUsed (heap.keys ++ text ∷ []) (find_global global text heap)
+find_global_uses global text heap = named_used (Text text) heap _ (λ name h used. look_up_used (heap.keys ++ text ∷ []) (At global) name (reached_from h.nodes global) h used)
+
+pub set_global_uses : (global : ℕ) (name : List ℕ) (held : Value) (heap : Heap) → HasUsed heap.keys (set_global global name held heap)
+set_global_uses global name held heap =
+    then_used heap.keys (look_up (At global) name (reached_from heap.nodes global) heap) _ (look_up_used heap.keys (At global) name (reached_from heap.nodes global) heap refl)
+    (λ found h used. done heap.keys (is_some found) (set_named global name held) not_defined h (set_named_used heap.keys global name held h used) (throws_of_used heap.keys Unit 8 (codes "not defined") h used))
+
+own_nothing_uses : (key : Value) (heap : Heap) → HasUsed (heap.keys ++ text_used (text_of key)) (followed {B = Bool} (named_key key heap) (λ name. no_properties))
+own_nothing_uses key heap = named_used key heap (λ name. no_properties) (λ name h used. throws_used (heap.keys ++ text_used (text_of key)) Bool (codes "no properties") h used)
+
+own_named_used : (keys : List (List ℕ)) (number : ℕ) (name : List ℕ) (heap : Heap) → heap.keys ≡ keys → HasUsed keys (has_own_named number name heap)
+own_named_used keys number name heap used = done keys (is_special (kind_of heap.nodes number) name) (stop NotInProfile) _ heap used used
+
+pub has_own_uses : (base key : Value) (heap : Heap) → HasUsed (heap.keys ++ used_by_test heap.nodes base key) (has_own base key heap)
+has_own_uses Undefined key heap = own_nothing_uses key heap
+has_own_uses Null key heap = own_nothing_uses key heap
+has_own_uses (Truth b) key heap = named_used key heap (λ name. stop NotInProfile) (λ name h used. used)
+has_own_uses (Int z) key heap = named_used key heap (λ name. stop NotInProfile) (λ name h used. used)
+has_own_uses (Text text) key heap = by (index_of key)
+  where
+    by : (place : Option ℕ) → HasUsed (heap.keys ++ used_unless place (text_used (text_of key))) (has_own_of_text text key place heap)
+    by (Some place) = sym (append-nil heap.keys)
+    by None = named_used key heap _ (λ name h used. used)
+has_own_uses (At number) key heap = by (element_of heap.nodes number key)
+  where
+    by : (place : Option ℕ) → HasUsed (heap.keys ++ used_unless place (text_used (text_of key))) (has_own_of_node number key place heap)
+    by (Some place) = sym (append-nil heap.keys)
+    by None = named_used key heap (λ name. has_own_named number name) (λ name h used. own_named_used (heap.keys ++ text_used (text_of key)) number name h used)
+has_own_uses Empty key heap = sym (append-nil heap.keys)

@@ -1,14 +1,15 @@
 -- Writing and deleting a property leaves a heap.
-use Rattle.std.proofs.Common.{◌≡◌, ℕ, ◌==◌, ◌&&◌, ◌||◌, inl, inr, Bool, true, false, not, nat_lt, nat_le, List, [], ◌∷◌, codes, length, slice_get, Option, None, Some, is_some, refl, sym, ap, subst, ◌∙◌, ⊎_elim, if◌then◌else◌}
+use Rattle.std.proofs.Common.{◌≡◌, ℕ, ◌==◌, ◌&&◌, ◌||◌, inl, inr, Bool, true, false, not, nat_lt, nat_le, pos, List, [], ◌∷◌, codes, length, slice_get, Option, None, Some, is_some, Result, Ok, Err, refl, sym, ap, subst, ◌∙◌, ⊎_elim, if◌then◌else◌}
 use Rattle.std.specs.Option.{option_and_then, option_map_or}
 use Rattle.std.specs.Str.{bytes_eq as text_eq}
 use Rattle.std.proofs.lemmas.Bool.{and_from, false≢true, true≢false}
 use Rattle.std.proofs.lemmas.Option.{slice_get_cases}
 use Rattle.std.proofs.lemmas.Slice.Eq.{bytes_eq-Decides}
 use Rattle.snap_base.specs.declared.limits.TheConstants.{MOST_ITEMS}
+use Rattle.snap_base.specs.declared.stop.Stop.{Stop}
 use Rattle.snap_base.specs.declared.stop.Stop.TheVariants.{NotInProfile, TooLong}
+use Rattle.snap_graph.specs.declared.intrinsic.TheConstants.{REFERENCE_ERROR_PROTOTYPE}
 use Rattle.snap_graph.specs.declared.kind.Kind.{Kind}
-use Rattle.snap_graph.specs.declared.kind.Kind.TheVariants as kind
 use Rattle.snap_graph.specs.declared.node.Node.{Node}
 use Rattle.snap_graph.specs.declared.value.Property.{Property}
 use Rattle.snap_graph.specs.declared.value.Value.{Value}
@@ -16,13 +17,16 @@ use Rattle.snap_graph.specs.declared.value.Value.TheVariants.{Undefined, Null, B
 use Rattle.snap_graph.specs.Lawful.{IsElementKey, IsLawful}
 use Rattle.snap_graph.specs.OwnKeys.{array_index}
 use Rattle.snap_graph.specs.Values.{IsValue}
-use Rattle.spec_values.specs.Access.{delete, delete_named, delete_of_node, delete_of_text, element_of, index_of, is_array, is_length, is_size, is_special, may_write, named_key, not_writable, reached_from, set, set_element_of, set_named, set_of_node, set_of_text}
-use Rattle.spec_values.specs.Answer.{Gave, Heap, Stopped, followed, give, stop}
+use Rattle.spec_values.specs.Access.{count_value, delete, delete_named, delete_of_node, delete_of_text, element_of, entry_count, found_or, index_of, is_array, is_length, is_size, is_special, look_up, may_write, named_key, not_writable, or_stop, reached_from, set, set_element_of, set_named, set_of_node, set_of_text, size_of, size_or_throw}
+use Rattle.spec_values.specs.Answer.{◌>>=◌, Action, Gave, Heap, Stopped, followed, give, stop}
+use Rattle.spec_values.specs.Asking.{not_defined, set_global}
+use Rattle.spec_values.specs.Conversions.{safe}
 use Rattle.spec_values.specs.Leaving.{LeavesHeap}
 use Rattle.spec_values.specs.Operations.{elements_of, held_under, is_frozen, kind_of, MayHold, own_value, push_element, put_own, put_under, remove_under, with_element, with_more, with_nodes, with_own, with_properties, without_own}
+use Rattle.spec_values.proofs.Arrays.{an_array_as, array_node, is_an_array, no_index_as}
 use Rattle.spec_values.proofs.Changes.{changed_same}
 use Rattle.spec_values.proofs.Elements.{with_element_lawful, with_more_lawful, with_own_lawful, without_own_lawful}
-use Rattle.spec_values.proofs.Ending.{Ends, either, ends_then, given, halted, leaves, one_of, put_ends, throws, weaker}
+use Rattle.spec_values.proofs.Ending.{Ends, either, ends_then, given, halted, leaves, one_of, put_ends, reference_error_prototype, throws, throws_of, weaker}
 use Rattle.spec_values.proofs.Naming.{name_text}
 use Rattle.spec_values.proofs.Reading.{Named, named_ends, outside}
 
@@ -33,28 +37,6 @@ AnyHeap result heap = IsLawful heap.nodes
 -- the heap is the one that was
 Same : {A : Type 0} → Heap → A → Heap → Type 0
 Same heap result after = after ≡ heap
-
--- the kind that an array has
-array_kind : (own : Kind) → is_array (Some own) ≡ true → own ≡ kind.Array
-array_kind kind.Plain e = absurd (false≢true e)
-array_kind kind.Array e = refl
-array_kind (kind.Function script tree) e = absurd (false≢true e)
-array_kind (kind.Native native) e = absurd (false≢true e)
-array_kind (kind.Scope scope) e = absurd (false≢true e)
-array_kind kind.Error e = absurd (false≢true e)
-array_kind kind.Map e = absurd (false≢true e)
-array_kind kind.Set e = absurd (false≢true e)
-array_kind (kind.Resource number closed) e = absurd (false≢true e)
-
-array_node_as : (found : Option Node) → is_array (option_and_then (λ node. Some node.kind) found) ≡ true → (node : Node) × (found ≡ Some node) × (node.kind ≡ kind.Array)
-array_node_as None e = absurd (false≢true e)
-array_node_as (Some node) e = (node, refl, array_kind node.kind e)
-
-pub array_node : (nodes : List Node) (number : ℕ) → is_array (kind_of nodes number) ≡ true → (node : Node) × (slice_get nodes number ≡ Some node) × (node.kind ≡ kind.Array)
-array_node nodes number e = array_node_as (slice_get nodes number) e
-
-is_an_array : (nodes : List Node) (number : ℕ) (node : Node) → slice_get nodes number ≡ Some node → node.kind ≡ kind.Array → is_array (kind_of nodes number) ≡ true
-is_an_array nodes number node e k = ap (λ (found : Option Node). is_array (option_and_then (λ n. Some n.kind) found)) e ∙ ap (λ (own : Kind). is_array (Some own)) k
 
 -- the mark of a node
 frozen_is : (nodes : List Node) (number : ℕ) (node : Node) (b : Bool) → slice_get nodes number ≡ Some node → is_frozen nodes number ≡ b → node.frozen ≡ b
@@ -139,15 +121,6 @@ text_write_ends : (key : Value) (place : Option ℕ) (heap : Heap) → IsLawful 
 text_write_ends key (Some place) heap lawful = throws AnyHeap (codes "not writable") heap lawful
 text_write_ends key None heap lawful = refused key heap lawful
 
--- the element that a key names is an array's, and where it names none of an array the key is no index
-pub an_array_as : (b : Bool) (index : Option ℕ) (place : ℕ) → (if b then index else None) ≡ Some place → b ≡ true
-an_array_as true index place e = refl
-an_array_as false index place e = absurd cc
-
-no_index_as : (b : Bool) (index : Option ℕ) → (if b then index else None) ≡ None → b ≡ true → index ≡ None
-no_index_as true index e an_array = e
-no_index_as false index e an_array = absurd (false≢true an_array)
-
 node_write_ends : (number : ℕ) (key held : Value) (place : Option ℕ) (heap : Heap) → IsLawful heap.nodes → IsValue (length heap.nodes) key → IsValue (length heap.nodes) held
     → element_of heap.nodes number key ≡ place → Ends AnyHeap (set_of_node number key held place heap)
 unfolding AnyHeap Named
@@ -172,6 +145,62 @@ set_ends Empty key held heap lawful is_key is_value = halted AnyHeap NotInProfil
 pub set_leaves : (base key held : Value) (heap : Heap) → IsLawful heap.nodes → IsValue (length heap.nodes) key → IsValue (length heap.nodes) held → LeavesHeap (set base key held heap)
 unfolding AnyHeap
 set_leaves base key held heap lawful is_key is_value = leaves AnyHeap (λ done h left. left) (set base key held heap) (set_ends base key held heap lawful is_key is_value)
+
+-- a look-up leaves the heap as it is
+count_stays : (n : ℕ) (heap : Heap) → IsLawful heap.nodes → Ends (Same heap) (count_value n heap)
+unfolding Same
+count_stays n heap lawful = by (safe (pos n))
+  where
+    by : (result : Result Value Stop) → Ends (Same heap) (or_stop result heap)
+    by (Ok value) = given (Same heap) value heap refl
+    by (Err why) = halted (Same heap) why heap lawful
+
+size_stays : (found : Option ℕ) (heap : Heap) → IsLawful heap.nodes → Ends (Same heap) (size_or_throw found heap)
+size_stays None heap lawful = throws (Same heap) (codes "wrong receiver") heap lawful
+size_stays (Some n) heap lawful = count_stays n heap lawful
+
+size_of_stays : (prototype : ℕ) (base : Value) (heap : Heap) → IsLawful heap.nodes → Ends (Same heap) (size_of prototype base heap)
+size_of_stays prototype Undefined heap lawful = size_stays None heap lawful
+size_of_stays prototype Null heap lawful = size_stays None heap lawful
+size_of_stays prototype (Truth b) heap lawful = size_stays None heap lawful
+size_of_stays prototype (Int z) heap lawful = size_stays None heap lawful
+size_of_stays prototype (Text text) heap lawful = size_stays None heap lawful
+size_of_stays prototype (At node) heap lawful = size_stays (entry_count prototype (kind_of heap.nodes node) (elements_of heap.nodes node)) heap lawful
+size_of_stays prototype Empty heap lawful = size_stays None heap lawful
+
+found_stays : (found : Option Value) (further : Action (Option Value)) (heap : Heap) → Ends (Same heap) (further heap) → Ends (Same heap) (found_or found further heap)
+unfolding Same
+found_stays None further heap more = more
+found_stays (Some held) further heap more = given (Same heap) (Some held) heap refl
+
+look_up_stays : (base : Value) (name numbers : List ℕ) (heap : Heap) → IsLawful heap.nodes → Ends (Same heap) (look_up base name numbers heap)
+unfolding Same
+look_up_stays base name [] heap lawful = given (Same heap) None heap refl
+look_up_stays base name (number ∷ rest) heap lawful =
+    let more = look_up_stays base name rest heap lawful in
+    either (Same heap) (is_special (kind_of heap.nodes number) name) (stop NotInProfile) _ heap
+    (λ special. halted (Same heap) NotInProfile heap lawful)
+    (λ plain.
+    either (Same heap) (is_size number name) (size_of number base >>= λ size. give (Some size)) (found_or (own_value heap.nodes number name) (look_up base name rest)) heap
+    (λ size. ends_then (Same heap) (Same heap) (size_of number base heap) (λ size. give (Some size)) (size_of_stays number base heap lawful) (λ size h left. given (Same heap) (Some size) h left))
+    (λ other. found_stays (own_value heap.nodes number name) (look_up base name rest) heap more))
+
+-- a name of a global object is written, where it is there still
+set_global_ends : (global : ℕ) (name : List ℕ) (held : Value) (heap : Heap) → IsLawful heap.nodes → IsValue (length heap.nodes) held
+    → is_array (kind_of heap.nodes global) ≡ false → Ends AnyHeap (set_global global name held heap)
+unfolding AnyHeap Same
+set_global_ends global name held heap lawful is_value plain =
+    ends_then (Same heap) AnyHeap (look_up (At global) name (reached_from heap.nodes global) heap) _ (look_up_stays (At global) name (reached_from heap.nodes global) heap lawful)
+    (λ found h same.
+    subst (λ (x : Heap). Ends AnyHeap ((if is_some found then set_named global name held else not_defined) x)) (sym same)
+    (either AnyHeap (is_some found) (set_named global name held) not_defined heap
+    (λ there. named_write_ends global name held heap lawful is_value (λ an_array. absurd (false≢true (sym plain ∙ an_array))))
+    (λ absent. throws_of AnyHeap REFERENCE_ERROR_PROTOTYPE reference_error_prototype (codes "not defined") heap lawful)))
+
+pub set_global_leaves : (global : ℕ) (name : List ℕ) (held : Value) (heap : Heap) → IsLawful heap.nodes → IsValue (length heap.nodes) held
+    → is_array (kind_of heap.nodes global) ≡ false → LeavesHeap (set_global global name held heap)
+unfolding AnyHeap
+set_global_leaves global name held heap lawful is_value plain = leaves AnyHeap (λ done h left. left) (set_global global name held heap) (set_global_ends global name held heap lawful is_value plain)
 
 -- where no property has the key, removing it changes nothing
 nothing_removed : (key : List ℕ) (properties : List Property) → held_under key properties ≡ None → remove_under key properties ≡ properties

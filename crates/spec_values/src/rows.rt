@@ -1,14 +1,15 @@
 //! Single cases of the definitions, which the checker computes.
 
-ghost use Rattle.std.specs.Prelude.{◌≡◌, ◌^◌, ◌-◌, [], ◌∷◌, pos, negsuc, false, true, codes, Ok, Err};
+ghost use Rattle.std.specs.Prelude.{◌≡◌, ◌^◌, ◌-◌, [], ◌∷◌, pos, negsuc, false, true, codes, None, Some, Ok, Err};
 ghost use Rattle.snap_base.specs.declared.stop.Stop.TheVariants.{NotInProfile, NotSafeInteger};
 ghost use Rattle.snap_graph.specs.declared.value.Value.TheVariants.{Undefined, Null, Bool as Truth, Int, Text, Node as At};
 ghost use Rattle.spec_values.specs.declared.operator.BinaryOp.TheVariants as binary;
 ghost use Rattle.spec_values.specs.declared.operator.UnaryOp.TheVariants as unary;
 ghost use Rattle.spec_values.specs.Access.{delete, get, set};
 ghost use Rattle.spec_values.specs.Answer.{Gave, Stopped, Threw};
+ghost use Rattle.spec_values.specs.Asking.{find_global, has_own, set_global, type_of};
 ghost use Rattle.spec_values.specs.Operators.{binary_value, unary_value};
-ghost use Rattle.spec_values.specs.Rows.{error_with, heap_of};
+ghost use Rattle.spec_values.specs.Rows.{error_of, error_with, heap_of, holding};
 
 /// Reading from intrinsics, texts and what has no properties.
 pub fn rows_of_get()
@@ -35,6 +36,30 @@ pub fn rows_of_set()
     ensures primitive { set (Int (pos 1)) (Text (codes "x")) Null (heap_of [] 0 []) ≡ Threw (At 62) (heap_of (error_with (codes "not writable") ∷ []) 1 (codes "x" ∷ codes "message" ∷ [])) }
     ensures deleted { delete (At 62) (Text (codes "message")) (heap_of (error_with [] ∷ []) 1 []) ≡ Gave true (heap_of (record (error_with []) { properties = [] } ∷ []) 1 (codes "message" ∷ [])) }
     ensures size { delete (At 5) (Text (codes "size")) (heap_of [] 0 []) ≡ Threw (At 62) (heap_of (error_with (codes "not writable") ∷ []) 1 (codes "size" ∷ codes "message" ∷ [])) }
+{}
+
+/// What is asked of values and of their own properties.
+pub fn rows_of_tests()
+    ensures function { type_of (At 10) (heap_of [] 0 []) ≡ Gave (codes "function") (heap_of [] 0 []) }
+    ensures null { type_of Null (heap_of [] 0 []) ≡ Gave (codes "object") (heap_of [] 0 []) }
+    ensures own { has_own (At 19) (Text (codes "log")) (heap_of [] 0 []) ≡ Gave true (heap_of [] 0 (codes "log" ∷ [])) }
+    ensures inherited { has_own (At 19) (Text (codes "constructor")) (heap_of [] 0 []) ≡ Gave false (heap_of [] 0 (codes "constructor" ∷ [])) }
+    ensures undefined_held { has_own (At 62) (Text (codes "x")) (heap_of (holding (codes "x") Undefined ∷ []) 1 []) ≡ Gave true (heap_of (holding (codes "x") Undefined ∷ []) 1 (codes "x" ∷ [])) }
+    ensures unit { has_own (Text (codes "ab")) (Int (pos 1)) (heap_of [] 0 []) ≡ Gave true (heap_of [] 0 []) }
+    ensures units { has_own (Text (codes "ab")) (Text (codes "length")) (heap_of [] 0 []) ≡ Gave true (heap_of [] 0 (codes "length" ∷ [])) }
+    ensures size { has_own (At 5) (Text (codes "size")) (heap_of [] 0 []) ≡ Gave true (heap_of [] 0 (codes "size" ∷ [])) }
+    ensures special { has_own (At 10) (Text (codes "name")) (heap_of [] 0 []) ≡ Stopped NotInProfile (heap_of [] 0 (codes "name" ∷ [])) }
+    ensures nothing { has_own Undefined (Text (codes "x")) (heap_of [] 0 []) ≡ Threw (At 62) (heap_of (error_with (codes "no properties") ∷ []) 1 (codes "x" ∷ codes "message" ∷ [])) }
+{}
+
+/// Names that no scope holds: absent is not undefined, and a write uses no key.
+pub fn rows_of_globals()
+    ensures found { find_global 62 (codes "x") (heap_of (holding (codes "x") Undefined ∷ []) 1 []) ≡ Gave (Some Undefined) (heap_of (holding (codes "x") Undefined ∷ []) 1 (codes "x" ∷ [])) }
+    ensures inherited { find_global 62 (codes "hasOwnProperty") (heap_of (holding (codes "x") Null ∷ []) 1 []) ≡ Gave (Some (At 24)) (heap_of (holding (codes "x") Null ∷ []) 1 (codes "hasOwnProperty" ∷ [])) }
+    ensures absent { find_global 62 (codes "y") (heap_of (holding (codes "x") Null ∷ []) 1 []) ≡ Gave None (heap_of (holding (codes "x") Null ∷ []) 1 (codes "y" ∷ [])) }
+    ensures written { set_global 62 (codes "x") (Int (pos 1)) (heap_of (holding (codes "x") Null ∷ []) 1 []) ≡ Gave tt (heap_of (holding (codes "x") (Int (pos 1)) ∷ []) 1 []) }
+    ensures shadowed { set_global 62 (codes "hasOwnProperty") Null (heap_of (holding (codes "x") Null ∷ []) 1 []) ≡ Threw (At 63) (heap_of (holding (codes "x") Null ∷ error_with (codes "not writable") ∷ []) 2 (codes "message" ∷ [])) }
+    ensures gone { set_global 62 (codes "y") Null (heap_of (holding (codes "x") Null ∷ []) 1 []) ≡ Threw (At 63) (heap_of (holding (codes "x") Null ∷ error_of 8 (codes "not defined") ∷ []) 2 (codes "message" ∷ [])) }
 {}
 
 /// Operators at their limits.
