@@ -44,6 +44,11 @@ module _ (scripts : List Tree) where
   either P true x y h f g = f
   either P false x y h f g = g
 
+  pub weaker : {A : Type 0} (P Q : List Node → A → Type 0) → ((nodes : List Node) (a : A) → P nodes a → Q nodes a) → (answer : HeapAnswer A) → Ends scripts P answer → Ends scripts Q answer
+  weaker P Q f (Gave a h) e = f h.nodes a e
+  weaker P Q f (Threw v h) e = e
+  weaker P Q f (Stopped why h) e = e
+
   -- a property is put, if there are not too many
   pub put_ends : (number : ℕ) (key : List ℕ) (held : Value) (heap : Heap) → IsNoScope heap.nodes held → Sound scripts heap.nodes
       → Ends scripts (HasPut scripts heap.nodes number key held) (put_own number key held heap)

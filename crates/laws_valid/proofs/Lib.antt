@@ -2,3 +2,6 @@ pub mod Keeping
 pub mod Sound
 pub mod Ending
 pub mod Reading
+pub mod Writing
+pub mod Asking
+pub mod Making

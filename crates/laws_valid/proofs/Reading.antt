@@ -23,15 +23,16 @@ use Rattle.laws_valid.proofs.Ending.{Ends, either, ends_then, throws}
 use Rattle.laws_valid.proofs.Keeping.{IsNoScope}
 use Rattle.laws_valid.proofs.Sound.{NoScopes, Sound}
 
--- the nodes fit the scripts, whatever is given; they do, and what is given is no scope; and so where nothing may be given
-abbrev pub Fits : {A : Type 0} → List Tree → List Node → A → Type 0
-Fits scripts nodes result = Sound scripts nodes
+-- of nodes P holds, and what is given is no scope; and so where nothing may be given
+abbrev pub Given : (List Node → Type 0) → List Node → Value → Type 0
+Given P nodes value = P nodes × IsNoScope nodes value
 
-abbrev pub Given : List Tree → List Node → Value → Type 0
-Given scripts nodes value = Sound scripts nodes × IsNoScope nodes value
+abbrev pub Found : (List Node → Type 0) → List Node → Option Value → Type 0
+Found P nodes found = P nodes × IfSome found (IsNoScope nodes)
 
-abbrev pub Found : List Tree → List Node → Option Value → Type 0
-Found scripts nodes found = Sound scripts nodes × IfSome found (IsNoScope nodes)
+-- P holds of nodes, whatever is given
+abbrev pub Kept : {A : Type 0} → (List Node → Type 0) → List Node → A → Type 0
+Kept P nodes result = P nodes
 
 -- a node that is read fits the scripts
 pub sound_at : (scripts : List Tree) (nodes : List Node) (number : ℕ) (node : Node) → Sound scripts nodes → slice_get nodes number ≡ Some node → IsValidNode nodes scripts node
@@ -73,82 +74,84 @@ module _ (scripts : List Tree) where
       let none : NoScopes nodes node.0.elements = (sound_at scripts nodes number node.0 sound node.1).elements (λ script tree is. absurd cc) in
       subst (λ (values : List Value). IsNoScope nodes (or_undefined (slice_get values place))) (sym elements) (read_unscoped nodes node.0.elements place (recursion_from_All (IsNoScope nodes) node.0.elements none))
 
+module _ (scripts : List Tree) (P : List Node → Type 0) where
   -- the key of a name is used, and what held of the nodes holds of them
-  pub named_ends : (P : List Node → Type 0) (key : Value) (heap : Heap) → Sound scripts heap.nodes → P heap.nodes → Ends scripts (λ nodes (name : List ℕ). P nodes) (named_key key heap)
-  named_ends P key heap sound h = by (text_of key)
+  pub named_ends : (key : Value) (heap : Heap) → Sound scripts heap.nodes → P heap.nodes → Ends scripts (Kept P) (named_key key heap)
+  named_ends key heap sound h = by (text_of key)
     where
-      judged : (name : List ℕ) (b : Bool) → Ends scripts (λ nodes (name : List ℕ). P nodes) ((if b then stop NotInProfile else give name) (record { nodes = heap.nodes; private_nodes = heap.private_nodes; keys = heap.keys ++ name ∷ [] }))
+      judged : (name : List ℕ) (b : Bool) → Ends scripts (Kept P) ((if b then stop NotInProfile else give name) (record { nodes = heap.nodes; private_nodes = heap.private_nodes; keys = heap.keys ++ name ∷ [] }))
       judged name true = sound
       judged name false = h
 
-      by : (r : Result (List ℕ) Stop) → Ends scripts (λ nodes (name : List ℕ). P nodes) (followed (or_stop r heap) (λ name h.
+      by : (r : Result (List ℕ) Stop) → Ends scripts (Kept P) (followed (or_stop r heap) (λ name h.
           (if text_eq name (codes "__proto__") then stop NotInProfile else give name) (record { nodes = h.nodes; private_nodes = h.private_nodes; keys = h.keys ++ name ∷ [] })))
       by (Ok name) = judged name (text_eq name (codes "__proto__"))
       by (Err why) = sound
 
   -- a number of units, elements or records
-  count_ends : (n : ℕ) (heap : Heap) → Sound scripts heap.nodes → Ends scripts (Given scripts) (count_value n heap)
-  count_ends n heap sound = by (nat_lt (unsigned_abs (pos n)) (2 ^ 53))
+  pub count_ends : (n : ℕ) (heap : Heap) → Sound scripts heap.nodes → P heap.nodes → Ends scripts (Given P) (count_value n heap)
+  count_ends n heap sound h = by (nat_lt (unsigned_abs (pos n)) (2 ^ 53))
     where
-      by : (b : Bool) → Ends scripts (Given scripts) (or_stop (if b then Ok (Int (pos n)) else Err NotSafeInteger) heap)
-      by true = (sound, refl)
+      by : (b : Bool) → Ends scripts (Given P) (or_stop (if b then Ok (Int (pos n)) else Err NotSafeInteger) heap)
+      by true = (h, refl)
       by false = sound
 
-  size_ends : (found : Option ℕ) (heap : Heap) → Sound scripts heap.nodes → Ends scripts (Given scripts) (size_or_throw found heap)
-  size_ends None heap sound = throws scripts (Given scripts) TYPE_ERROR_PROTOTYPE (codes "wrong receiver") heap sound
-  size_ends (Some n) heap sound = count_ends n heap sound
+  size_ends : (found : Option ℕ) (heap : Heap) → Sound scripts heap.nodes → P heap.nodes → Ends scripts (Given P) (size_or_throw found heap)
+  size_ends None heap sound h = throws scripts (Given P) TYPE_ERROR_PROTOTYPE (codes "wrong receiver") heap sound
+  size_ends (Some n) heap sound h = count_ends n heap sound h
 
-  size_of_ends : (prototype : ℕ) (base : Value) (heap : Heap) → Sound scripts heap.nodes → Ends scripts (Given scripts) (size_of prototype base heap)
-  size_of_ends prototype Undefined heap sound = size_ends None heap sound
-  size_of_ends prototype Null heap sound = size_ends None heap sound
-  size_of_ends prototype (Truth b) heap sound = size_ends None heap sound
-  size_of_ends prototype (Int z) heap sound = size_ends None heap sound
-  size_of_ends prototype (Text text) heap sound = size_ends None heap sound
-  size_of_ends prototype (At node) heap sound = size_ends (entry_count prototype (kind_of heap.nodes node) (elements_of heap.nodes node)) heap sound
-  size_of_ends prototype Empty heap sound = size_ends None heap sound
+  size_of_ends : (prototype : ℕ) (base : Value) (heap : Heap) → Sound scripts heap.nodes → P heap.nodes → Ends scripts (Given P) (size_of prototype base heap)
+  size_of_ends prototype Undefined heap sound h = size_ends None heap sound h
+  size_of_ends prototype Null heap sound h = size_ends None heap sound h
+  size_of_ends prototype (Truth b) heap sound h = size_ends None heap sound h
+  size_of_ends prototype (Int z) heap sound h = size_ends None heap sound h
+  size_of_ends prototype (Text text) heap sound h = size_ends None heap sound h
+  size_of_ends prototype (At node) heap sound h = size_ends (entry_count prototype (kind_of heap.nodes node) (elements_of heap.nodes node)) heap sound h
+  size_of_ends prototype Empty heap sound h = size_ends None heap sound h
 
   -- looking up
-  found_ends : (found : Option Value) (further : Action (Option Value)) (heap : Heap) → Sound scripts heap.nodes → IfSome found (IsNoScope heap.nodes) → Ends scripts (Found scripts) (further heap) → Ends scripts (Found scripts) (found_or found further heap)
-  found_ends None further heap sound h more = more
-  found_ends (Some held) further heap sound h more = (sound, h)
+  found_ends : (found : Option Value) (further : Action (Option Value)) (heap : Heap) → P heap.nodes → IfSome found (IsNoScope heap.nodes) → Ends scripts (Found P) (further heap) → Ends scripts (Found P) (found_or found further heap)
+  found_ends None further heap h none more = more
+  found_ends (Some held) further heap h none more = (h, none)
 
-  pub look_up_ends : (base : Value) (name numbers : List ℕ) (heap : Heap) → Sound scripts heap.nodes → Ends scripts (Found scripts) (look_up base name numbers heap)
-  look_up_ends base name [] heap sound = (sound, tt)
-  look_up_ends base name (number ∷ rest) heap sound =
-      let more = look_up_ends base name rest heap sound in
-      either scripts (Found scripts) (is_special (kind_of heap.nodes number) name) (stop NotInProfile) _ heap sound
-      (either scripts (Found scripts) (is_size number name) (size_of number base >>= λ size. give (Some size)) (found_or (own_value heap.nodes number name) (look_up base name rest)) heap
-      (ends_then scripts (Given scripts) (Found scripts) (size_of number base heap) (λ size. give (Some size)) (size_of_ends number base heap sound) (λ size h left. left))
-      (found_ends (own_value heap.nodes number name) (look_up base name rest) heap sound (own_unscoped heap.nodes number name sound) more))
+  pub look_up_ends : (base : Value) (name numbers : List ℕ) (heap : Heap) → Sound scripts heap.nodes → P heap.nodes → Ends scripts (Found P) (look_up base name numbers heap)
+  look_up_ends base name [] heap sound h = (h, tt)
+  look_up_ends base name (number ∷ rest) heap sound h =
+      let more = look_up_ends base name rest heap sound h in
+      either scripts (Found P) (is_special (kind_of heap.nodes number) name) (stop NotInProfile) _ heap sound
+      (either scripts (Found P) (is_size number name) (size_of number base >>= λ size. give (Some size)) (found_or (own_value heap.nodes number name) (look_up base name rest)) heap
+      (ends_then scripts (Given P) (Found P) (size_of number base heap) (λ size. give (Some size)) (size_of_ends number base heap sound h) (λ size after left. left))
+      (found_ends (own_value heap.nodes number name) (look_up base name rest) heap h (own_unscoped scripts heap.nodes number name sound) more))
 
-  along_ends : (base : Value) (name numbers : List ℕ) (heap : Heap) → Sound scripts heap.nodes → Ends scripts (Given scripts) (read_along base name numbers heap)
+module _ (scripts : List Tree) where
+  along_ends : (base : Value) (name numbers : List ℕ) (heap : Heap) → Sound scripts heap.nodes → Ends scripts (Given (Sound scripts)) (read_along base name numbers heap)
   along_ends base name numbers heap sound =
-      ends_then scripts (Found scripts) (Given scripts) (look_up base name numbers heap) (λ found. give (or_undefined found)) (look_up_ends base name numbers heap sound)
+      ends_then scripts (Found (Sound scripts)) (Given (Sound scripts)) (look_up base name numbers heap) (λ found. give (or_undefined found)) (look_up_ends scripts (Sound scripts) base name numbers heap sound sound)
       (λ found h left. (left.0, or_undefined_unscoped h.nodes found left.1))
 
-  text_ends : (text : List ℕ) (key : Value) (place : Option ℕ) (heap : Heap) → Sound scripts heap.nodes → Ends scripts (Given scripts) (get_of_text text key place heap)
+  text_ends : (text : List ℕ) (key : Value) (place : Option ℕ) (heap : Heap) → Sound scripts heap.nodes → Ends scripts (Given (Sound scripts)) (get_of_text text key place heap)
   text_ends text key (Some place) heap sound = (sound, unit_unscoped heap.nodes (slice_get text place))
   text_ends text key None heap sound =
-      ends_then scripts (Fits scripts) (Given scripts) (named_key key heap) _ (named_ends (Sound scripts) key heap sound sound)
-      (λ name h here. either scripts (Given scripts) (text_eq name (codes "length")) (count_value (length text)) (read_along (Text text) name (reached_from h.nodes STRING_PROTOTYPE)) h
-      (count_ends (length text) h here) (along_ends (Text text) name (reached_from h.nodes STRING_PROTOTYPE) h here))
+      ends_then scripts (Kept (Sound scripts)) (Given (Sound scripts)) (named_key key heap) _ (named_ends scripts (Sound scripts) key heap sound sound)
+      (λ name h here. either scripts (Given (Sound scripts)) (text_eq name (codes "length")) (count_value (length text)) (read_along (Text text) name (reached_from h.nodes STRING_PROTOTYPE)) h
+      (count_ends scripts (Sound scripts) (length text) h here here) (along_ends (Text text) name (reached_from h.nodes STRING_PROTOTYPE) h here))
 
-  node_ends : (number : ℕ) (key : Value) (place : Option ℕ) (heap : Heap) → Sound scripts heap.nodes → element_of heap.nodes number key ≡ place → Ends scripts (Given scripts) (get_of_node number key place heap)
-  node_ends number key (Some place) heap sound e = (sound, element_unscoped heap.nodes number place sound (an_array_as (is_array (kind_of heap.nodes number)) (index_of key) place e))
+  node_ends : (number : ℕ) (key : Value) (place : Option ℕ) (heap : Heap) → Sound scripts heap.nodes → element_of heap.nodes number key ≡ place → Ends scripts (Given (Sound scripts)) (get_of_node number key place heap)
+  node_ends number key (Some place) heap sound e = (sound, element_unscoped scripts heap.nodes number place sound (an_array_as (is_array (kind_of heap.nodes number)) (index_of key) place e))
   node_ends number key None heap sound e =
-      ends_then scripts (Fits scripts) (Given scripts) (named_key key heap) _ (named_ends (Sound scripts) key heap sound sound)
-      (λ name h here. either scripts (Given scripts) (is_length h.nodes number name) (count_value (length (elements_of h.nodes number))) (read_along (At number) name (reached_from h.nodes number)) h
-      (count_ends (length (elements_of h.nodes number)) h here) (along_ends (At number) name (reached_from h.nodes number) h here))
+      ends_then scripts (Kept (Sound scripts)) (Given (Sound scripts)) (named_key key heap) _ (named_ends scripts (Sound scripts) key heap sound sound)
+      (λ name h here. either scripts (Given (Sound scripts)) (is_length h.nodes number name) (count_value (length (elements_of h.nodes number))) (read_along (At number) name (reached_from h.nodes number)) h
+      (count_ends scripts (Sound scripts) (length (elements_of h.nodes number)) h here here) (along_ends (At number) name (reached_from h.nodes number) h here))
 
   -- a primitive that has no properties in this profile
   pub outside : {A : Type 0} (Q : List Node → A → Type 0) (key : Value) (heap : Heap) → Sound scripts heap.nodes → Ends scripts Q (followed (named_key key heap) (λ name. stop NotInProfile))
-  outside Q key heap sound = ends_then scripts (Fits scripts) Q (named_key key heap) (λ name. stop NotInProfile) (named_ends (Sound scripts) key heap sound sound) (λ name h here. here)
+  outside Q key heap sound = ends_then scripts (Kept (Sound scripts)) Q (named_key key heap) (λ name. stop NotInProfile) (named_ends scripts (Sound scripts) key heap sound sound) (λ name h here. here)
 
-  pub get_ends : (base key : Value) (heap : Heap) → Sound scripts heap.nodes → Ends scripts (Given scripts) (get base key heap)
-  get_ends Undefined key heap sound = throws scripts (Given scripts) TYPE_ERROR_PROTOTYPE (codes "no properties") heap sound
-  get_ends Null key heap sound = throws scripts (Given scripts) TYPE_ERROR_PROTOTYPE (codes "no properties") heap sound
-  get_ends (Truth b) key heap sound = outside (Given scripts) key heap sound
-  get_ends (Int z) key heap sound = outside (Given scripts) key heap sound
+  pub get_ends : (base key : Value) (heap : Heap) → Sound scripts heap.nodes → Ends scripts (Given (Sound scripts)) (get base key heap)
+  get_ends Undefined key heap sound = throws scripts (Given (Sound scripts)) TYPE_ERROR_PROTOTYPE (codes "no properties") heap sound
+  get_ends Null key heap sound = throws scripts (Given (Sound scripts)) TYPE_ERROR_PROTOTYPE (codes "no properties") heap sound
+  get_ends (Truth b) key heap sound = outside (Given (Sound scripts)) key heap sound
+  get_ends (Int z) key heap sound = outside (Given (Sound scripts)) key heap sound
   get_ends (Text text) key heap sound = text_ends text key (index_of key) heap sound
   get_ends (At number) key heap sound = node_ends number key (element_of heap.nodes number key) heap sound refl
   get_ends Empty key heap sound = sound
