@@ -4,4 +4,5 @@ pub mod Ending
 pub mod Reading
 pub mod Writing
 pub mod Asking
-pub mod Making
+pub mod Made
+pub mod Leaving

@@ -35,10 +35,10 @@ use Rattle.laws_valid.proofs.Keeping.{IsNoScope, KeepsScopes, chain_kept, change
 use Rattle.laws_valid.proofs.Sound.{NoScopes, NoneHeld, Sound, elements_sound, node_kept, stays}
 
 -- a function with the scope that it closes over, and a scope with its slots
-abbrev function_node : ℕ → ℕ → Value → Node
+abbrev pub function_node : ℕ → ℕ → Value → Node
 function_node script tree scope = record { kind = kind.Function script tree; prototype = At FUNCTION_PROTOTYPE; frozen = false; properties = []; elements = scope ∷ [] }
 
-abbrev scope_node : ScopeKind → Value → List Value → Node
+abbrev pub scope_node : ScopeKind → Value → List Value → Node
 scope_node scope outer slots = record { kind = kind.Scope scope; prototype = outer; frozen = false; properties = []; elements = slots }
 
 -- a heap with one more node, and how an action ends that makes it
@@ -178,3 +178,108 @@ function_valid scripts script tree scope needs heap valid function chain =
     let none : IsNoScope after (At (length heap.nodes)) = ap (λ found. option_map_or (λ (node : Node). is_scope node.kind) found false) (read_last heap.nodes x) in
     subst (LeavesValid scripts IsObject) (sym (function_made script tree scope heap))
     (made_valid scripts IsObject heap x valid (record { lawful = function_lawful scripts script tree scope needs heap.nodes valid chain; each = each }) (omega (arith, length-append heap.nodes (x ∷ [])), none))
+
+-- what stands round a scope may be its prototype
+outer_may_be : (nodes : List Node) (scope : ScopeKind) (outer : Value) → IsOuter nodes outer → IsPrototype nodes (kind.Scope scope) outer
+outer_may_be nodes scope outer (inl e) = subst (IsPrototype nodes (kind.Scope scope)) (sym e) tt
+outer_may_be nodes scope Undefined (inr h) = absurd (false≢true h)
+outer_may_be nodes scope Null (inr h) = tt
+outer_may_be nodes scope (Truth b) (inr h) = absurd (false≢true h)
+outer_may_be nodes scope (Int z) (inr h) = absurd (false≢true h)
+outer_may_be nodes scope (Text text) (inr h) = absurd (false≢true h)
+outer_may_be nodes scope (At number) (inr h) = by (slice_get nodes number) refl h
+  where
+    by : (found : Option Node) → slice_get nodes number ≡ found → option_map_or (λ (node : Node). is_scope node.kind) found false ≡ true → IsPrototype nodes (kind.Scope scope) (At number)
+    by None e h = absurd (false≢true h)
+    by (Some node) e h = (node, e, h)
+outer_may_be nodes scope Empty (inr h) = absurd (false≢true h)
+
+-- what a slot holds is a place's, and is no scope
+slot_place : (nodes : List Node) (held : Value) → IsSlot nodes held → IsPlace (length nodes) held
+slot_place nodes held (inl e) = inl e
+slot_place nodes held (inr h) = inr h.0
+
+slot_unscoped : (nodes : List Node) (held : Value) → IsSlot nodes held → IsNoScope nodes held
+slot_unscoped nodes held (inl e) = subst (IsNoScope nodes) (sym e) refl
+slot_unscoped nodes held (inr h) = h.1
+
+-- elements of a lawful node are places
+record_places : (count : ℕ) (elements : List Value) → AreRecords count elements → All (IsPlace count) elements
+record_places count [] h = All-nil (IsPlace count)
+record_places count (key ∷ []) h = absurd h
+record_places count (key ∷ held ∷ rest) h =
+    All-cons (IsPlace count) key (held ∷ rest) (⊎_elim (λ e. inl e.0) (λ e. inr e.0) h.0)
+    (All-cons (IsPlace count) held rest (⊎_elim (λ e. inl e.1) (λ e. inr e.1) h.0) (record_places count rest h.1))
+
+places : (count : ℕ) (own : Kind) (elements : List Value) → AreElements count own elements → All (IsPlace count) elements
+places count kind.Plain elements h = subst (All (IsPlace count)) (sym h) (All-nil (IsPlace count))
+places count kind.Array elements h = λ k d within. inr (h k d within)
+places count (kind.Function script tree) elements h = λ k d within. inr (h k d within)
+places count (kind.Native native) elements h = subst (All (IsPlace count)) (sym h) (All-nil (IsPlace count))
+places count (kind.Scope scope) elements h = h
+places count kind.Error elements h = subst (All (IsPlace count)) (sym h) (All-nil (IsPlace count))
+places count kind.Map elements h = record_places count elements h.0
+places count kind.Set elements h = h.0
+places count (kind.Resource number closed) elements h = subst (All (IsPlace count)) (sym h) (All-nil (IsPlace count))
+
+-- slots are added to the last node, which is a scope
+slots_lawful : (scope : ScopeKind) (outer : Value) (nodes : List Node) (slots before : List Value) → All (IsPlace (length nodes)) slots → IsLawful (nodes ++ scope_node scope outer before ∷ []) → IsLawful (nodes ++ scope_node scope outer (before ++ slots) ∷ [])
+slots_lawful scope outer nodes [] before h lawful = subst (λ (held : List Value). IsLawful (nodes ++ scope_node scope outer held ∷ [])) (sym (append-nil before)) lawful
+slots_lawful scope outer nodes (slot ∷ rest) before h lawful =
+    let x = scope_node scope outer before in
+    let mid = nodes ++ x ∷ [] in
+    let place = place_kept (length nodes) (length mid) slot (omega (arith, length-append nodes (x ∷ []))) (All-head (IsPlace (length nodes)) slot rest h) in
+    let more = subst IsLawful (changed_last (with_elements (λ elements. elements ++ slot ∷ [])) nodes x) (with_more_lawful mid (length nodes) x lawful (read_last nodes x) slot place) in
+    subst (λ (held : List Value). IsLawful (nodes ++ scope_node scope outer held ∷ [])) (append_assoc before (slot ∷ []) rest)
+    (slots_lawful scope outer nodes rest (before ++ slot ∷ []) (All-tail (IsPlace (length nodes)) slot rest h) more)
+
+-- nodes that are a graph of scripts fit the scripts where one more node is a scope
+scope_sound : (scripts : List Tree) (nodes : List Node) (x : Node) → IsValid nodes scripts → IsValidNode (nodes ++ x ∷ []) scripts x → Sound scripts (nodes ++ x ∷ [])
+scope_sound scripts nodes x valid fits =
+    let after = nodes ++ x ∷ [] in
+    All-push (IsValidNode after scripts) nodes x
+    (λ k d within.
+    let node = get_or nodes k d in
+    let lawful : IsLawfulNode nodes node = valid.lawful.each k d within in
+    node_kept scripts nodes after (more_keeps nodes x) node
+    (λ h i e inside. within_unscoped nodes x (get_or node.elements i e) (places (length nodes) node.kind node.elements lawful.elements i e inside) (h i e inside))
+    (λ h i e inside. within_unscoped nodes x (get_or node.properties i e).value (inr (lawful.values i e inside)) (h i e inside))
+    (valid.each k d within))
+    fits
+
+-- a scope is made valid
+pub scope_valid : (scripts : List Tree) (scope : ScopeKind) (outer : Value) (slots : List Value) (heap : Heap) → IsValid heap.nodes scripts → IsOuter heap.nodes outer → All (IsSlot heap.nodes) slots
+    → LeavesValid scripts IsScope (make_scope scope outer slots heap)
+scope_valid scripts scope outer slots heap valid round each =
+    let x = scope_node scope outer slots in
+    let after = heap.nodes ++ x ∷ [] in
+    let first = new_node (kind.Scope scope) outer in
+    let lawful : IsLawful after =
+    slots_lawful scope outer heap.nodes slots [] (All-weaker (IsSlot heap.nodes) (IsPlace (length heap.nodes)) (slot_place heap.nodes) slots each)
+    (made_lawful heap.nodes (kind.Scope scope) outer valid.lawful (outer_may_be heap.nodes scope outer round) (λ n e. absurd cc)) in
+    let fits : IsValidNode after scripts x = record {
+      functions = λ s n is. absurd cc;
+      elements = λ other. All-weaker (IsSlot heap.nodes) (IsNoScope after) (λ held h. within_unscoped heap.nodes x held (slot_place heap.nodes held h) (slot_unscoped heap.nodes held h)) slots each;
+      properties = All-nil (λ (p : Property). IsNoScope after p.value);
+    } in
+    subst (LeavesValid scripts IsScope) (sym (scope_made scope outer slots heap))
+    (made_valid scripts IsScope heap x valid (record { lawful = lawful; each = scope_sound scripts heap.nodes x valid fits })
+    (ap (λ found. option_map_or (λ (node : Node). is_scope node.kind) found false) (read_last heap.nodes x)))
+
+-- an element is written in its place, so no scope gets more or fewer slots
+pub slot_chain : (number place : ℕ) (held value : Value) (needs : List ScopeNeed) (heap : Heap) → IsChain heap.nodes value needs → IsChain (left_by (set_element number place held heap)).nodes value needs
+slot_chain number place held value needs heap chain =
+    let change = with_elements (λ elements. slice_set elements place held) in
+    chain_kept heap.nodes (changed change heap.nodes number) (changed_keeps change (λ node. refl) (λ node. refl) heap.nodes number (λ node scope read is. length-set node.elements place held)) chain
+
+-- a slot is written
+pub slot_valid : (scripts : List Tree) (number place : ℕ) (node : Node) (scope : ScopeKind) (held : Value) (heap : Heap) → IsValid heap.nodes scripts → slice_get heap.nodes number ≡ Some node → node.kind ≡ kind.Scope scope → IsSlot heap.nodes held
+    → LeavesValid scripts Anything (set_element number place held heap)
+slot_valid scripts number place node scope held heap valid at is slot =
+    let may : MayHold (length heap.nodes) node.kind node.frozen held = subst (λ (own : Kind). MayHold (length heap.nodes) own node.frozen held) (sym is) (slot_place heap.nodes held slot) in
+    let each : Sound scripts (with_element heap.nodes number place held) =
+    elements_sound scripts (λ elements. slice_set elements place held) heap.nodes number
+    (λ other script tree read own. let same : node ≡ other = cc in let kinds = ap (λ (n : Node). n.kind) same in absurd cc)
+    (λ other scope read own. length-set other.elements place held)
+    (λ after unscoped elements h. All-set (IsNoScope after) elements place held (unscoped held (slot_unscoped heap.nodes held slot)) h) valid.each in
+    (record { lawful = with_element_lawful heap.nodes number node valid.lawful at place held may; each = each }, tt)

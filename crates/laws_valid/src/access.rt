@@ -1,0 +1,45 @@
+//! Property access keeps a graph valid for scripts. The functions do nothing: what they ensure holds of all heaps.
+
+ghost use Rattle.std.specs.Prelude.{◌≡◌, ℕ, List, false, length};
+ghost use Rattle.snap_ast.specs.declared.tree.Tree.{Tree};
+ghost use Rattle.snap_graph.specs.declared.kind.ScopeKind.{ScopeKind};
+ghost use Rattle.snap_graph.specs.declared.value.Value.{Value};
+ghost use Rattle.snap_graph.specs.Values.{IsValue};
+ghost use Rattle.spec_scopes.specs.declared.need.ScopeNeed.{ScopeNeed};
+ghost use Rattle.spec_scopes.specs.Valid.{IsChain, IsScriptValue, IsValid};
+ghost use Rattle.spec_values.specs.Access.{delete, get, is_array, set};
+ghost use Rattle.spec_values.specs.Answer.{Heap};
+ghost use Rattle.spec_values.specs.Asking.{find_global, has_own, is_callable, set_global, type_of};
+ghost use Rattle.spec_values.specs.Operations.{kind_of, make_function, make_scope, set_element};
+ghost use Rattle.spec_values.specs.State.{left_by};
+ghost use Rattle.laws_valid.specs.Leaving.{Anything, IsScriptOption, LeavesValid};
+
+/// However a read, a write, a delete or a test ends, the graph that it leaves is valid for the scripts for which it was, and
+/// what is given or thrown is a value that scripts can have, so no scope. Only what is written has to be one before: a read
+/// gives none whatever its base and its key are. So do names of a global object, which is no array.
+pub fn accesses_keep_graphs_valid()
+    ensures get { (scripts : List Tree) (base key : Value) (heap : Heap) → IsValid heap.nodes scripts → LeavesValid scripts IsScriptValue (get base key heap) }
+    ensures set { (scripts : List Tree) (base key value : Value) (heap : Heap) → IsValid heap.nodes scripts
+        → IsValue (length heap.nodes) key → IsScriptValue heap.nodes value → LeavesValid scripts Anything (set base key value heap) }
+    ensures delete { (scripts : List Tree) (base key : Value) (heap : Heap) → IsValid heap.nodes scripts → LeavesValid scripts Anything (delete base key heap) }
+    ensures has_own { (scripts : List Tree) (base key : Value) (heap : Heap) → IsValid heap.nodes scripts → LeavesValid scripts Anything (has_own base key heap) }
+    ensures find_global { (scripts : List Tree) (global : ℕ) (name : List ℕ) (heap : Heap) → IsValid heap.nodes scripts → LeavesValid scripts IsScriptOption (find_global global name heap) }
+    ensures set_global { (scripts : List Tree) (global : ℕ) (name : List ℕ) (value : Value) (heap : Heap) → IsValid heap.nodes scripts
+        → IsScriptValue heap.nodes value → is_array (kind_of heap.nodes global) ≡ false → LeavesValid scripts Anything (set_global global name value heap) }
+    ensures type_of { (scripts : List Tree) (value : Value) (heap : Heap) → IsValid heap.nodes scripts → LeavesValid scripts Anything (type_of value heap) }
+    ensures is_callable { (scripts : List Tree) (value : Value) (heap : Heap) → IsValid heap.nodes scripts → LeavesValid scripts Anything (is_callable value heap) }
+{}
+
+/// The scopes from a value on are those that were, with as many slots, however a read, a write, a delete or a test ends, where
+/// a slot is written, and where a function or a scope is made.
+pub fn chains_stay()
+    ensures get { (base key value : Value) (needs : List ScopeNeed) (heap : Heap) → IsChain heap.nodes value needs → IsChain (left_by (get base key heap)).nodes value needs }
+    ensures set { (base key held value : Value) (needs : List ScopeNeed) (heap : Heap) → IsChain heap.nodes value needs → IsChain (left_by (set base key held heap)).nodes value needs }
+    ensures delete { (base key value : Value) (needs : List ScopeNeed) (heap : Heap) → IsChain heap.nodes value needs → IsChain (left_by (delete base key heap)).nodes value needs }
+    ensures has_own { (base key value : Value) (needs : List ScopeNeed) (heap : Heap) → IsChain heap.nodes value needs → IsChain (left_by (has_own base key heap)).nodes value needs }
+    ensures find_global { (global : ℕ) (name : List ℕ) (value : Value) (needs : List ScopeNeed) (heap : Heap) → IsChain heap.nodes value needs → IsChain (left_by (find_global global name heap)).nodes value needs }
+    ensures set_global { (global : ℕ) (name : List ℕ) (held value : Value) (needs : List ScopeNeed) (heap : Heap) → IsChain heap.nodes value needs → IsChain (left_by (set_global global name held heap)).nodes value needs }
+    ensures slot { (number place : ℕ) (held value : Value) (needs : List ScopeNeed) (heap : Heap) → IsChain heap.nodes value needs → IsChain (left_by (set_element number place held heap)).nodes value needs }
+    ensures function { (script number : ℕ) (scope value : Value) (needs : List ScopeNeed) (heap : Heap) → IsChain heap.nodes value needs → IsChain (left_by (make_function script number scope heap)).nodes value needs }
+    ensures scope { (kind : ScopeKind) (outer : Value) (slots : List Value) (value : Value) (needs : List ScopeNeed) (heap : Heap) → IsChain heap.nodes value needs → IsChain (left_by (make_scope kind outer slots heap)).nodes value needs }
+{}
