@@ -12,9 +12,9 @@ use Rattle.spec_values.specs.Answer.{HeapAnswer, Gave, Heap, Stopped, Threw}
 use Rattle.spec_values.specs.Asking.{is_callable, type_of}
 use Rattle.spec_values.specs.Leaving.{GivesAny, GivesValue, LeavesHeap, LeavesNodes, StandStill}
 use Rattle.spec_values.specs.State.{left_by}
-use Rattle.laws_valid.specs.Leaving.{Anything, IsScriptOption, LeavesValid}
+use Rattle.laws_valid.specs.Leaving.{Anything, IsScriptOption, LeavesValid, Stays}
 use Rattle.laws_valid.proofs.Ending.{Ends}
-use Rattle.laws_valid.proofs.Keeping.{IsNoScope, KeepsScopes, chain_kept}
+use Rattle.laws_valid.proofs.Keeping.{Grows, IsNoScope, all_stay}
 use Rattle.laws_valid.proofs.Reading.{Found, Given, Kept}
 use Rattle.laws_valid.proofs.Sound.{Sound}
 
@@ -57,13 +57,16 @@ module _ (scripts : List Tree) where
   callable_valid (At number) heap valid = (valid, tt)
   callable_valid Empty heap valid = (valid, tt)
 
--- scopes are kept where nodes stand still
-still_keeps : (nodes after : List Node) → StandStill nodes after → KeepsScopes nodes after
-still_keeps nodes after still number node scope read is =
-    let now = still.each number node read in
-    (now.0, now.1, now.2 ∙ is, now.3, ap length (now.4 (λ an_array. absurd cc)))
+-- values and chains stay where nodes stand still
+still_stays : (nodes after : List Node) → StandStill nodes after → Stays nodes after
+still_stays nodes after still = all_stay nodes after (record {
+  count = still.count;
+  each = λ number node read.
+      let now = still.each number node read in
+      (now.0, now.1, now.2, now.3, λ scope is. ap length (now.4 (λ an_array. absurd cc)));
+})
 
-pub chain_left : {A : Type 0} (nodes : List Node) (answer : HeapAnswer A) (value : Value) (needs : List ScopeNeed) → LeavesNodes nodes answer → IsChain nodes value needs → IsChain (left_by answer).nodes value needs
-chain_left nodes (Gave a h) value needs still chain = chain_kept nodes h.nodes (still_keeps nodes h.nodes still) chain
-chain_left nodes (Threw v h) value needs still chain = chain_kept nodes h.nodes (still_keeps nodes h.nodes still) chain
-chain_left nodes (Stopped why h) value needs still chain = chain_kept nodes h.nodes (still_keeps nodes h.nodes still) chain
+pub left_stays : {A : Type 0} (nodes : List Node) (answer : HeapAnswer A) → LeavesNodes nodes answer → Stays nodes (left_by answer).nodes
+left_stays nodes (Gave a h) still = still_stays nodes h.nodes still
+left_stays nodes (Threw v h) still = still_stays nodes h.nodes still
+left_stays nodes (Stopped why h) still = still_stays nodes h.nodes still

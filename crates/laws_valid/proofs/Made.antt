@@ -30,9 +30,9 @@ use Rattle.spec_values.proofs.Elements.{with_element_lawful, with_more_lawful}
 use Rattle.spec_values.proofs.Ending.{read_last}
 use Rattle.spec_values.proofs.Keeping.{place_kept}
 use Rattle.spec_values.proofs.Made.{enough, made_lawful}
-use Rattle.laws_valid.specs.Leaving.{Anything, IsObject, IsOuter, IsScope, IsSlot, LeavesValid}
-use Rattle.laws_valid.proofs.Keeping.{IsNoScope, KeepsScopes, chain_kept, changed_keeps, more_keeps, more_unscoped, within_unscoped}
-use Rattle.laws_valid.proofs.Sound.{NoScopes, NoneHeld, Sound, elements_sound, node_kept, stays}
+use Rattle.laws_valid.specs.Leaving.{Anything, IsObject, IsOuter, IsScope, IsSlot, LeavesValid, Stays}
+use Rattle.laws_valid.proofs.Keeping.{IsNoScope, all_stay, chain_kept, changed_grows, more_grows, more_unscoped, unscoped_kept}
+use Rattle.laws_valid.proofs.Sound.{NoScopes, NoneHeld, Sound, elements_sound, node_kept, node_stays}
 
 -- a function with the scope that it closes over, and a scope with its slots
 abbrev pub function_node : ℕ → ℕ → Value → Node
@@ -95,21 +95,21 @@ given_made heap after x number e = by (nat_lt heap.private_nodes MOST_PRIVATE_NO
     by true e = (cc, cc)
     by false e = absurd cc
 
--- scopes are kept where a node is made
-made_chain : (heap : Heap) (x : Node) (value : Value) (needs : List ScopeNeed) → IsChain heap.nodes value needs → IsChain (left_by (made heap x)).nodes value needs
-made_chain heap x value needs chain = by (nat_lt heap.private_nodes MOST_PRIVATE_NODES)
+-- values and chains stay where a node is made
+made_stays : (heap : Heap) (x : Node) → Stays heap.nodes (left_by (made heap x)).nodes
+made_stays heap x = by (nat_lt heap.private_nodes MOST_PRIVATE_NODES)
   where
-    by : (b : Bool) → IsChain (left_by {A = ℕ} (if b then Gave (length heap.nodes) (one_more heap x) else Stopped TooManyNodes heap)).nodes value needs
-    by true = chain_kept heap.nodes (heap.nodes ++ x ∷ []) (more_keeps heap.nodes x) chain
-    by false = chain
+    by : (b : Bool) → Stays heap.nodes (left_by {A = ℕ} (if b then Gave (length heap.nodes) (one_more heap x) else Stopped TooManyNodes heap)).nodes
+    by true = all_stay heap.nodes (heap.nodes ++ x ∷ []) (more_grows heap.nodes x)
+    by false = record { values = λ value h. h; chains = λ value needs chain. chain }
 
-pub function_chain : (script tree : ℕ) (scope value : Value) (needs : List ScopeNeed) (heap : Heap) → IsChain heap.nodes value needs → IsChain (left_by (make_function script tree scope heap)).nodes value needs
-function_chain script tree scope value needs heap chain =
-    subst (λ (answer : HeapAnswer ℕ). IsChain (left_by answer).nodes value needs) (sym (function_made script tree scope heap)) (made_chain heap (function_node script tree scope) value needs chain)
+pub function_stays : (script tree : ℕ) (scope : Value) (heap : Heap) → Stays heap.nodes (left_by (make_function script tree scope heap)).nodes
+function_stays script tree scope heap =
+    subst (λ (answer : HeapAnswer ℕ). Stays heap.nodes (left_by answer).nodes) (sym (function_made script tree scope heap)) (made_stays heap (function_node script tree scope))
 
-pub scope_chain : (scope : ScopeKind) (outer : Value) (slots : List Value) (value : Value) (needs : List ScopeNeed) (heap : Heap) → IsChain heap.nodes value needs → IsChain (left_by (make_scope scope outer slots heap)).nodes value needs
-scope_chain scope outer slots value needs heap chain =
-    subst (λ (answer : HeapAnswer ℕ). IsChain (left_by answer).nodes value needs) (sym (scope_made scope outer slots heap)) (made_chain heap (scope_node scope outer slots) value needs chain)
+pub scope_stays : (scope : ScopeKind) (outer : Value) (slots : List Value) (heap : Heap) → Stays heap.nodes (left_by (make_scope scope outer slots heap)).nodes
+scope_stays scope outer slots heap =
+    subst (λ (answer : HeapAnswer ℕ). Stays heap.nodes (left_by answer).nodes) (sym (scope_made scope outer slots heap)) (made_stays heap (scope_node scope outer slots))
 
 -- the scopes from a new scope on are it and those round it
 pub scope_inside : (scope : ScopeKind) (outer : Value) (slots : List Value) (needs : List ScopeNeed) (number : ℕ) (heap after : Heap) → make_scope scope outer slots heap ≡ Gave number after
@@ -118,7 +118,7 @@ scope_inside scope outer slots needs number heap after e chain =
     let x = scope_node scope outer slots in
     let is = given_made heap after x number (sym (scope_made scope outer slots heap) ∙ e) in
     let inside : IsChain (heap.nodes ++ x ∷ []) (At (length heap.nodes)) (record { kind = scope; slots = length slots } ∷ needs) =
-    Inside (read_last heap.nodes x) refl (chain_kept heap.nodes (heap.nodes ++ x ∷ []) (more_keeps heap.nodes x) chain) in
+    Inside (read_last heap.nodes x) refl (chain_kept heap.nodes (heap.nodes ++ x ∷ []) (more_grows heap.nodes x) chain) in
     subst (λ (h : Heap). IsChain h.nodes (At number) (record { kind = scope; slots = length slots } ∷ needs)) (sym is.1)
     (subst (λ (n : ℕ). IsChain (heap.nodes ++ x ∷ []) (At n) (record { kind = scope; slots = length slots } ∷ needs)) (sym is.0) inside)
 
@@ -149,13 +149,13 @@ module _ (scripts : List Tree) (script tree : ℕ) (scope : Value) (needs : List
       let mid = nodes ++ first ∷ [] in
       subst IsLawful (changed_last (with_elements (λ elements. elements ++ scope ∷ [])) nodes first)
       (with_more_lawful mid (length nodes) first (made_lawful nodes (kind.Function script tree) (At FUNCTION_PROTOTYPE) valid.lawful (function_may_be nodes script tree valid.lawful) (λ n e. absurd cc))
-      (read_last nodes first) scope (chain_value mid (chain_kept nodes mid (more_keeps nodes first) chain)))
+      (read_last nodes first) scope (chain_value mid (chain_kept nodes mid (more_grows nodes first) chain)))
 
   function_fits : IsFunctionIn scripts script tree needs → IsValidNode (nodes ++ function_node script tree scope ∷ []) scripts (function_node script tree scope)
   function_fits function =
       let x = function_node script tree scope in
       let after = nodes ++ x ∷ [] in
-      let closes : ClosesOver after scripts script tree (scope ∷ []) = record { scope = scope; needs = needs; one = refl; scopes = chain_kept nodes after (more_keeps nodes x) chain; function = function } in
+      let closes : ClosesOver after scripts script tree (scope ∷ []) = record { scope = scope; needs = needs; one = refl; scopes = chain_kept nodes after (more_grows nodes x) chain; function = function } in
       record {
         functions = λ s n is.
             let same : script ≡ s = cc in
@@ -173,7 +173,7 @@ function_valid scripts script tree scope needs heap valid function chain =
     let after = heap.nodes ++ x ∷ [] in
     let each : Sound scripts after =
     All-push (IsValidNode after scripts) heap.nodes x
-    (All-weaker (IsValidNode heap.nodes scripts) (IsValidNode after scripts) (stays scripts heap.nodes after (more_keeps heap.nodes x) (λ value h. more_unscoped heap.nodes x value refl h)) heap.nodes valid.each)
+    (All-weaker (IsValidNode heap.nodes scripts) (IsValidNode after scripts) (node_stays scripts heap.nodes after (more_grows heap.nodes x) (λ value h. more_unscoped heap.nodes x value refl h)) heap.nodes valid.each)
     (function_fits scripts script tree scope needs heap.nodes valid chain function) in
     let none : IsNoScope after (At (length heap.nodes)) = ap (λ found. option_map_or (λ (node : Node). is_scope node.kind) found false) (read_last heap.nodes x) in
     subst (LeavesValid scripts IsObject) (sym (function_made script tree scope heap))
@@ -241,9 +241,9 @@ scope_sound scripts nodes x valid fits =
     (λ k d within.
     let node = get_or nodes k d in
     let lawful : IsLawfulNode nodes node = valid.lawful.each k d within in
-    node_kept scripts nodes after (more_keeps nodes x) node
-    (λ h i e inside. within_unscoped nodes x (get_or node.elements i e) (places (length nodes) node.kind node.elements lawful.elements i e inside) (h i e inside))
-    (λ h i e inside. within_unscoped nodes x (get_or node.properties i e).value (inr (lawful.values i e inside)) (h i e inside))
+    node_kept scripts nodes after (more_grows nodes x) node
+    (λ h i e inside. unscoped_kept nodes after (more_grows nodes x) (get_or node.elements i e) (places (length nodes) node.kind node.elements lawful.elements i e inside) (h i e inside))
+    (λ h i e inside. unscoped_kept nodes after (more_grows nodes x) (get_or node.properties i e).value (inr (lawful.values i e inside)) (h i e inside))
     (valid.each k d within))
     fits
 
@@ -259,7 +259,7 @@ scope_valid scripts scope outer slots heap valid round each =
     (made_lawful heap.nodes (kind.Scope scope) outer valid.lawful (outer_may_be heap.nodes scope outer round) (λ n e. absurd cc)) in
     let fits : IsValidNode after scripts x = record {
       functions = λ s n is. absurd cc;
-      elements = λ other. All-weaker (IsSlot heap.nodes) (IsNoScope after) (λ held h. within_unscoped heap.nodes x held (slot_place heap.nodes held h) (slot_unscoped heap.nodes held h)) slots each;
+      elements = λ other. All-weaker (IsSlot heap.nodes) (IsNoScope after) (λ held h. unscoped_kept heap.nodes after (more_grows heap.nodes x) held (slot_place heap.nodes held h) (slot_unscoped heap.nodes held h)) slots each;
       properties = All-nil (λ (p : Property). IsNoScope after p.value);
     } in
     subst (LeavesValid scripts IsScope) (sym (scope_made scope outer slots heap))
@@ -267,10 +267,10 @@ scope_valid scripts scope outer slots heap valid round each =
     (ap (λ found. option_map_or (λ (node : Node). is_scope node.kind) found false) (read_last heap.nodes x)))
 
 -- an element is written in its place, so no scope gets more or fewer slots
-pub slot_chain : (number place : ℕ) (held value : Value) (needs : List ScopeNeed) (heap : Heap) → IsChain heap.nodes value needs → IsChain (left_by (set_element number place held heap)).nodes value needs
-slot_chain number place held value needs heap chain =
+pub slot_stays : (number place : ℕ) (held : Value) (heap : Heap) → Stays heap.nodes (left_by (set_element number place held heap)).nodes
+slot_stays number place held heap =
     let change = with_elements (λ elements. slice_set elements place held) in
-    chain_kept heap.nodes (changed change heap.nodes number) (changed_keeps change (λ node. refl) (λ node. refl) heap.nodes number (λ node scope read is. length-set node.elements place held)) chain
+    all_stay heap.nodes (changed change heap.nodes number) (changed_grows change (λ node. refl) (λ node. refl) heap.nodes number (λ node scope read is. length-set node.elements place held))
 
 -- a slot is written
 pub slot_valid : (scripts : List Tree) (number place : ℕ) (node : Node) (scope : ScopeKind) (held : Value) (heap : Heap) → IsValid heap.nodes scripts → slice_get heap.nodes number ≡ Some node → node.kind ≡ kind.Scope scope → IsSlot heap.nodes held

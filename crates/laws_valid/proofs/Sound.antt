@@ -11,7 +11,7 @@ use Rattle.snap_graph.specs.declared.value.Value.{Value}
 use Rattle.spec_scopes.specs.Valid.{ClosesOver, IsValidNode}
 use Rattle.spec_values.specs.Operations.{changed, new_node, put_under, with_elements, with_own, with_properties}
 use Rattle.spec_values.proofs.Holding.{all_put_under}
-use Rattle.laws_valid.proofs.Keeping.{IsNoScope, KeepsScopes, chain_kept, changed_keeps, changed_unscoped, more_keeps, more_unscoped}
+use Rattle.laws_valid.proofs.Keeping.{IsNoScope, Grows, chain_kept, changed_grows, changed_unscoped, more_grows, more_unscoped}
 
 -- each node fits the scripts
 abbrev pub Sound : List Tree → List Node → Type 0
@@ -26,20 +26,20 @@ NoneHeld nodes properties = All (λ (property : Property). IsNoScope nodes prope
 
 module _ (scripts : List Tree) where
   -- a node that stays as it is, where scopes are kept and its values are no scopes
-  pub node_kept : (nodes after : List Node) → KeepsScopes nodes after → (node : Node)
+  pub node_kept : (nodes after : List Node) → Grows nodes after → (node : Node)
       → (NoScopes nodes node.elements → NoScopes after node.elements) → (NoneHeld nodes node.properties → NoneHeld after node.properties) → IsValidNode nodes scripts node → IsValidNode after scripts node
-  node_kept nodes after keeps node elements properties valid = record {
+  node_kept nodes after grows node elements properties valid = record {
     functions = λ script number is.
         let closes = valid.functions script number is in
-        record { scope = closes.scope; needs = closes.needs; one = closes.one; scopes = chain_kept nodes after keeps closes.scopes; function = closes.function };
+        record { scope = closes.scope; needs = closes.needs; one = closes.one; scopes = chain_kept nodes after grows closes.scopes; function = closes.function };
     elements = λ other. elements (valid.elements other);
     properties = properties valid.properties;
   }
 
   -- and where no value that is none becomes a scope
-  pub stays : (nodes after : List Node) → KeepsScopes nodes after → ((value : Value) → IsNoScope nodes value → IsNoScope after value) → (node : Node) → IsValidNode nodes scripts node → IsValidNode after scripts node
-  stays nodes after keeps unscoped node valid =
-      node_kept nodes after keeps node
+  pub node_stays : (nodes after : List Node) → Grows nodes after → ((value : Value) → IsNoScope nodes value → IsNoScope after value) → (node : Node) → IsValidNode nodes scripts node → IsValidNode after scripts node
+  node_stays nodes after grows unscoped node valid =
+      node_kept nodes after grows node
       (All-weaker (IsNoScope nodes) (IsNoScope after) unscoped node.elements)
       (All-weaker (λ (p : Property). IsNoScope nodes p.value) (λ (p : Property). IsNoScope after p.value) (λ p h. unscoped p.value h) node.properties) valid
 
@@ -49,7 +49,7 @@ module _ (scripts : List Tree) where
       let x = new_node Error prototype in
       let after = nodes ++ x ∷ [] in
       All-push (IsValidNode after scripts) nodes x
-      (All-weaker (IsValidNode nodes scripts) (IsValidNode after scripts) (stays nodes after (more_keeps nodes x) (λ value h. more_unscoped nodes x value refl h)) nodes sound)
+      (All-weaker (IsValidNode nodes scripts) (IsValidNode after scripts) (node_stays nodes after (more_grows nodes x) (λ value h. more_unscoped nodes x value refl h)) nodes sound)
       (record { functions = λ script number is. absurd cc; elements = λ other. All-nil (IsNoScope after); properties = All-nil (λ (p : Property). IsNoScope after p.value) })
 
   -- what holds of nodes holds of them where one is changed
@@ -67,7 +67,7 @@ module _ (scripts : List Tree) where
       let after = changed (with_properties change) nodes number in
       let unscoped = changed_unscoped (with_properties change) (λ node. refl) nodes number in
       changed_all (IsValidNode nodes scripts) (IsValidNode after scripts) (with_properties change)
-      (stays nodes after (changed_keeps (with_properties change) (λ node. refl) (λ node. refl) nodes number (λ node scope read is. refl)) unscoped)
+      (node_stays nodes after (changed_grows (with_properties change) (λ node. refl) (λ node. refl) nodes number (λ node scope read is. refl)) unscoped)
       nodes number (λ node read valid. record { functions = valid.functions; elements = valid.elements; properties = none after unscoped node.properties valid.properties }) sound
 
   pub put_sound : (nodes : List Node) (number : ℕ) (key : List ℕ) (held : Value) → IsNoScope nodes held → Sound scripts nodes → Sound scripts (with_own nodes number key held)
@@ -85,7 +85,7 @@ module _ (scripts : List Tree) where
       let after = changed (with_elements change) nodes number in
       let unscoped = changed_unscoped (with_elements change) (λ node. refl) nodes number in
       changed_all (IsValidNode nodes scripts) (IsValidNode after scripts) (with_elements change)
-      (stays nodes after (changed_keeps (with_elements change) (λ node. refl) (λ node. refl) nodes number slots) unscoped)
+      (node_stays nodes after (changed_grows (with_elements change) (λ node. refl) (λ node. refl) nodes number slots) unscoped)
       nodes number
       (λ node read valid. record {
         functions = λ script tree is. absurd (no_function node script tree read is);

@@ -4,7 +4,8 @@ use Rattle.snap_ast.specs.declared.tree.Tree.{Tree}
 use Rattle.snap_graph.specs.declared.node.Node.{Node}
 use Rattle.snap_graph.specs.declared.value.Value.{Value}
 use Rattle.snap_graph.specs.declared.value.Value.TheVariants.{Null, Node as At, Empty}
-use Rattle.spec_scopes.specs.Valid.{IsScriptValue, IsValid, holds_scope}
+use Rattle.spec_scopes.specs.declared.need.ScopeNeed.{ScopeNeed}
+use Rattle.spec_scopes.specs.Valid.{IsChain, IsScriptValue, IsValid, holds_scope}
 use Rattle.spec_values.specs.Answer.{HeapAnswer, Gave, Stopped, Threw}
 
 -- nothing is said of what is given
@@ -35,3 +36,8 @@ abbrev pub LeavesValid : {A : Type 0} → List Tree → (List Node → A → Typ
 LeavesValid scripts P (Gave result heap) = IsValid heap.nodes scripts × P heap.nodes result
 LeavesValid scripts P (Threw value heap) = IsValid heap.nodes scripts × IsScriptValue heap.nodes value
 LeavesValid scripts P (Stopped why heap) = IsValid heap.nodes scripts
+
+-- what scripts can have stays such, and the scopes from a value on are those that were
+pub record Stays (nodes after : List Node) : Type 0 where
+  pub values : (value : Value) → IsScriptValue nodes value → IsScriptValue after value
+  pub chains : (value : Value) (needs : List ScopeNeed) → IsChain nodes value needs → IsChain after value needs

@@ -5,14 +5,13 @@ ghost use Rattle.snap_ast.specs.declared.tree.Tree.{Tree};
 ghost use Rattle.snap_graph.specs.declared.kind.ScopeKind.{ScopeKind};
 ghost use Rattle.snap_graph.specs.declared.value.Value.{Value};
 ghost use Rattle.snap_graph.specs.Values.{IsValue};
-ghost use Rattle.spec_scopes.specs.declared.need.ScopeNeed.{ScopeNeed};
-ghost use Rattle.spec_scopes.specs.Valid.{IsChain, IsScriptValue, IsValid};
+ghost use Rattle.spec_scopes.specs.Valid.{IsScriptValue, IsValid};
 ghost use Rattle.spec_values.specs.Access.{delete, get, is_array, set};
 ghost use Rattle.spec_values.specs.Answer.{Heap};
 ghost use Rattle.spec_values.specs.Asking.{find_global, has_own, is_callable, set_global, type_of};
 ghost use Rattle.spec_values.specs.Operations.{kind_of, make_function, make_scope, set_element};
 ghost use Rattle.spec_values.specs.State.{left_by};
-ghost use Rattle.laws_valid.specs.Leaving.{Anything, IsScriptOption, LeavesValid};
+ghost use Rattle.laws_valid.specs.Leaving.{Anything, IsScriptOption, LeavesValid, Stays};
 
 /// However a read, a write, a delete or a test ends, the graph that it leaves is valid for the scripts for which it was, and
 /// what is given or thrown is a value that scripts can have, so no scope. Only what is written has to be one before: a read
@@ -30,16 +29,16 @@ pub fn accesses_keep_graphs_valid()
     ensures is_callable { (scripts : List Tree) (value : Value) (heap : Heap) → IsValid heap.nodes scripts → LeavesValid scripts Anything (is_callable value heap) }
 {}
 
-/// The scopes from a value on are those that were, with as many slots, however a read, a write, a delete or a test ends, where
-/// a slot is written, and where a function or a scope is made.
-pub fn chains_stay()
-    ensures get { (base key value : Value) (needs : List ScopeNeed) (heap : Heap) → IsChain heap.nodes value needs → IsChain (left_by (get base key heap)).nodes value needs }
-    ensures set { (base key held value : Value) (needs : List ScopeNeed) (heap : Heap) → IsChain heap.nodes value needs → IsChain (left_by (set base key held heap)).nodes value needs }
-    ensures delete { (base key value : Value) (needs : List ScopeNeed) (heap : Heap) → IsChain heap.nodes value needs → IsChain (left_by (delete base key heap)).nodes value needs }
-    ensures has_own { (base key value : Value) (needs : List ScopeNeed) (heap : Heap) → IsChain heap.nodes value needs → IsChain (left_by (has_own base key heap)).nodes value needs }
-    ensures find_global { (global : ℕ) (name : List ℕ) (value : Value) (needs : List ScopeNeed) (heap : Heap) → IsChain heap.nodes value needs → IsChain (left_by (find_global global name heap)).nodes value needs }
-    ensures set_global { (global : ℕ) (name : List ℕ) (held value : Value) (needs : List ScopeNeed) (heap : Heap) → IsChain heap.nodes value needs → IsChain (left_by (set_global global name held heap)).nodes value needs }
-    ensures slot { (number place : ℕ) (held value : Value) (needs : List ScopeNeed) (heap : Heap) → IsChain heap.nodes value needs → IsChain (left_by (set_element number place held heap)).nodes value needs }
-    ensures function { (script number : ℕ) (scope value : Value) (needs : List ScopeNeed) (heap : Heap) → IsChain heap.nodes value needs → IsChain (left_by (make_function script number scope heap)).nodes value needs }
-    ensures scope { (kind : ScopeKind) (outer : Value) (slots : List Value) (value : Value) (needs : List ScopeNeed) (heap : Heap) → IsChain heap.nodes value needs → IsChain (left_by (make_scope kind outer slots heap)).nodes value needs }
+/// However a read, a write, a delete or a test ends, a value that scripts can have stays one, and the scopes from a value on
+/// are those that were, each with as many slots. So it is where a slot is written, and where a function or a scope is made.
+pub fn values_and_chains_stay()
+    ensures get { (base key : Value) (heap : Heap) → Stays heap.nodes (left_by (get base key heap)).nodes }
+    ensures set { (base key value : Value) (heap : Heap) → Stays heap.nodes (left_by (set base key value heap)).nodes }
+    ensures delete { (base key : Value) (heap : Heap) → Stays heap.nodes (left_by (delete base key heap)).nodes }
+    ensures has_own { (base key : Value) (heap : Heap) → Stays heap.nodes (left_by (has_own base key heap)).nodes }
+    ensures find_global { (global : ℕ) (name : List ℕ) (heap : Heap) → Stays heap.nodes (left_by (find_global global name heap)).nodes }
+    ensures set_global { (global : ℕ) (name : List ℕ) (value : Value) (heap : Heap) → Stays heap.nodes (left_by (set_global global name value heap)).nodes }
+    ensures slot { (number place : ℕ) (value : Value) (heap : Heap) → Stays heap.nodes (left_by (set_element number place value heap)).nodes }
+    ensures function { (script number : ℕ) (scope : Value) (heap : Heap) → Stays heap.nodes (left_by (make_function script number scope heap)).nodes }
+    ensures scope { (kind : ScopeKind) (outer : Value) (slots : List Value) (heap : Heap) → Stays heap.nodes (left_by (make_scope kind outer slots heap)).nodes }
 {}

@@ -7,5 +7,5 @@
 mod access;
 mod making;
 
-pub use access::{accesses_keep_graphs_valid, chains_stay};
+pub use access::{accesses_keep_graphs_valid, values_and_chains_stay};
 pub use making::{functions_are_made_valid, scopes_are_made_valid, slots_keep_graphs_valid};
