@@ -1,9 +1,8 @@
 -- Tests of own properties and names of a global object keep nodes fit for scripts.
-use Rattle.std.proofs.Common.{◌≡◌, ℕ, Bool, List, codes, Option, None, Some, is_some, if◌then◌else◌}
+use Rattle.std.proofs.Common.{ℕ, Bool, List, codes, Option, None, Some, is_some}
 use Rattle.snap_ast.specs.declared.tree.Tree.{Tree}
 use Rattle.snap_base.specs.declared.stop.Stop.TheVariants.{NotInProfile}
 use Rattle.snap_graph.specs.declared.intrinsic.TheConstants.{REFERENCE_ERROR_PROTOTYPE, TYPE_ERROR_PROTOTYPE}
-use Rattle.snap_graph.specs.declared.node.Node.{Node}
 use Rattle.snap_graph.specs.declared.value.Value.{Value}
 use Rattle.snap_graph.specs.declared.value.Value.TheVariants.{Undefined, Null, Bool as Truth, Int, Text, Node as At, Empty}
 use Rattle.spec_values.specs.Access.{element_of, index_of, is_special, look_up, named_key, no_properties, reached_from, set_named}

@@ -1,20 +1,18 @@
 -- Ends that keep nodes fit for scripts leave graphs of scripts where a heap is left.
-use Rattle.std.proofs.Common.{◌≡◌, ℕ, List, length, Option, None, Some, IfSome, ap, ◌∙◌}
+use Rattle.std.proofs.Common.{List, length, Option, None, Some, IfSome, ap}
 use Rattle.snap_ast.specs.declared.tree.Tree.{Tree}
-use Rattle.snap_graph.specs.declared.kind.Kind.TheVariants.{Array, Scope}
 use Rattle.snap_graph.specs.declared.node.Node.{Node}
 use Rattle.snap_graph.specs.declared.value.Value.{Value}
 use Rattle.snap_graph.specs.declared.value.Value.TheVariants.{Undefined, Null, Bool as Truth, Int, Text, Node as At, Empty}
 use Rattle.snap_graph.specs.Values.{IsValue}
-use Rattle.spec_scopes.specs.declared.need.ScopeNeed.{ScopeNeed}
-use Rattle.spec_scopes.specs.Valid.{IsChain, IsScriptValue, IsValid}
+use Rattle.spec_scopes.specs.Valid.{IsScriptValue, IsValid}
 use Rattle.spec_values.specs.Answer.{HeapAnswer, Gave, Heap, Stopped, Threw}
 use Rattle.spec_values.specs.Asking.{is_callable, type_of}
 use Rattle.spec_values.specs.Leaving.{GivesAny, GivesValue, LeavesHeap, LeavesNodes, StandStill}
 use Rattle.spec_values.specs.State.{left_by}
 use Rattle.laws_valid.specs.Leaving.{Anything, IsScriptOption, LeavesValid, Stays}
 use Rattle.laws_valid.proofs.Ending.{Ends}
-use Rattle.laws_valid.proofs.Keeping.{Grows, IsNoScope, all_stay}
+use Rattle.laws_valid.proofs.Keeping.{IsNoScope, all_stay}
 use Rattle.laws_valid.proofs.Reading.{Found, Given, Kept}
 use Rattle.laws_valid.proofs.Sound.{Sound}
 

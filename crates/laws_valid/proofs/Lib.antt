@@ -1,8 +1,9 @@
-pub mod Keeping
-pub mod Sound
-pub mod Ending
-pub mod Reading
-pub mod Writing
 pub mod Asking
-pub mod Made
+pub mod Beginning
+pub mod Ending
+pub mod Keeping
 pub mod Leaving
+pub mod Made
+pub mod Reading
+pub mod Sound
+pub mod Writing

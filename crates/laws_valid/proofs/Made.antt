@@ -1,5 +1,5 @@
 -- Functions and scopes that are made with what they hold, and slots that are written.
-use Rattle.std.proofs.Common.{◌≡◌, ℕ, ◌+◌, ◌<◌, ◌≤◌, inl, inr, Bool, true, false, nat_lt, All, List, [], ◌∷◌, ◌++◌, length, get_or, slice_get, Option, None, Some, refl, sym, ap, subst, ◌∙◌, ⊎_elim, arith, if◌then◌else◌, append_assoc, append-nil, length-append}
+use Rattle.std.proofs.Common.{◌≡◌, ℕ, ◌+◌, inl, inr, Bool, true, false, nat_lt, All, List, [], ◌∷◌, ◌++◌, length, get_or, slice_get, Option, None, Some, refl, sym, ap, subst, ◌∙◌, ⊎_elim, arith, if◌then◌else◌, append_assoc, append-nil, length-append}
 use Rattle.std.specs.List.{slice_set}
 use Rattle.std.specs.Option.{option_map_or}
 use Rattle.std.proofs.lemmas.Bool.{false≢true}
@@ -22,9 +22,9 @@ use Rattle.snap_graph.specs.Intrinsics.{constructors, frozen_node, host_objects,
 use Rattle.snap_graph.specs.Lawful.{AreElements, AreRecords, IsLawful, IsLawfulNode, IsPrototype, is_scope}
 use Rattle.snap_graph.specs.Values.{IsPlace, IsValue}
 use Rattle.spec_scopes.specs.declared.need.ScopeNeed.{ScopeNeed}
-use Rattle.spec_scopes.specs.Valid.{ClosesOver, Inside, IsChain, IsFunctionIn, IsValid, IsValidNode, Outermost, holds_scope}
+use Rattle.spec_scopes.specs.Valid.{ClosesOver, Inside, IsChain, IsFunctionIn, IsValid, IsValidNode, Outermost}
 use Rattle.spec_values.specs.Answer.{◌>>=◌, HeapAnswer, Gave, Heap, Stopped, followed, give}
-use Rattle.spec_values.specs.Operations.{MayHold, add_element, add_elements, changed, make_function, make_scope, new_node, set_element, with_element, with_elements, with_more, with_nodes}
+use Rattle.spec_values.specs.Operations.{MayHold, add_element, add_elements, changed, make_function, make_scope, new_node, set_element, with_element, with_elements, with_nodes}
 use Rattle.spec_values.specs.State.{left_by}
 use Rattle.spec_values.proofs.Elements.{with_element_lawful, with_more_lawful}
 use Rattle.spec_values.proofs.Ending.{read_last}
@@ -32,7 +32,7 @@ use Rattle.spec_values.proofs.Keeping.{place_kept}
 use Rattle.spec_values.proofs.Made.{enough, made_lawful}
 use Rattle.laws_valid.specs.Leaving.{Anything, IsObject, IsOuter, IsScope, IsSlot, LeavesValid, Stays}
 use Rattle.laws_valid.proofs.Keeping.{IsNoScope, all_stay, chain_kept, changed_grows, more_grows, more_unscoped, unscoped_kept}
-use Rattle.laws_valid.proofs.Sound.{NoScopes, NoneHeld, Sound, elements_sound, node_kept, node_stays}
+use Rattle.laws_valid.proofs.Sound.{Sound, elements_sound, node_kept, node_stays}
 
 -- a function with the scope that it closes over, and a scope with its slots
 abbrev pub function_node : ℕ → ℕ → Value → Node

@@ -1,5 +1,5 @@
 -- Reading keeps nodes fit for scripts, and gives no scope.
-use Rattle.std.proofs.Common.{◌≡◌, ℕ, zero, suc, Bool, true, false, pos, All, List, [], ◌∷◌, ◌++◌, codes, length, slice_get, Option, None, Some, IfSome, nat_lt, ◌^◌, unsigned_abs, Result, Ok, Err, refl, sym, ap, subst, if◌then◌else◌}
+use Rattle.std.proofs.Common.{◌≡◌, ℕ, zero, suc, Bool, true, false, pos, List, [], ◌∷◌, ◌++◌, codes, length, slice_get, Option, None, Some, IfSome, nat_lt, ◌^◌, unsigned_abs, Result, Ok, Err, refl, sym, ap, subst, if◌then◌else◌}
 use Rattle.std.specs.List.{AllByRecursion}
 use Rattle.std.specs.Option.{option_and_then, option_map_or}
 use Rattle.std.specs.Str.{bytes_eq as text_eq}

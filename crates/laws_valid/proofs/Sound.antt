@@ -1,14 +1,13 @@
 -- Nodes that fit scripts, where nodes come or are changed.
-use Rattle.std.proofs.Common.{◌≡◌, ℕ, zero, suc, All, List, [], ◌∷◌, ◌++◌, length, get_or, slice_get, Some, refl}
-use Rattle.std.specs.List.{slice_set}
-use Rattle.std.proofs.lemmas.List.Elements.{All-cons, All-filter, All-head, All-nil, All-push, All-set, All-tail, All-weaker}
+use Rattle.std.proofs.Common.{◌≡◌, ℕ, zero, suc, All, List, [], ◌∷◌, ◌++◌, length, slice_get, Some, refl}
+use Rattle.std.proofs.lemmas.List.Elements.{All-cons, All-head, All-nil, All-push, All-tail, All-weaker}
 use Rattle.snap_ast.specs.declared.tree.Tree.{Tree}
-use Rattle.snap_graph.specs.declared.kind.Kind.TheVariants.{Array, Error, Function, Scope}
+use Rattle.snap_graph.specs.declared.kind.Kind.TheVariants.{Error, Function, Scope}
 use Rattle.snap_graph.specs.declared.kind.ScopeKind.{ScopeKind}
 use Rattle.snap_graph.specs.declared.node.Node.{Node}
 use Rattle.snap_graph.specs.declared.value.Property.{Property}
 use Rattle.snap_graph.specs.declared.value.Value.{Value}
-use Rattle.spec_scopes.specs.Valid.{ClosesOver, IsValidNode}
+use Rattle.spec_scopes.specs.Valid.{IsValidNode}
 use Rattle.spec_values.specs.Operations.{changed, new_node, put_under, with_elements, with_own, with_properties}
 use Rattle.spec_values.proofs.Holding.{all_put_under}
 use Rattle.laws_valid.proofs.Keeping.{IsNoScope, Grows, chain_kept, changed_grows, changed_unscoped, more_grows, more_unscoped}

@@ -1,5 +1,5 @@
 -- Writing and deleting keep nodes fit for scripts.
-use Rattle.std.proofs.Common.{◌≡◌, ℕ, ◌==◌, ◌&&◌, ◌||◌, Bool, true, false, not, nat_lt, nat_le, List, [], ◌∷◌, ◌++◌, codes, length, slice_get, Option, None, Some, is_some, refl, sym, ap, ◌∙◌, if◌then◌else◌}
+use Rattle.std.proofs.Common.{◌≡◌, ℕ, ◌==◌, ◌&&◌, ◌||◌, Bool, true, false, not, nat_lt, nat_le, List, [], ◌∷◌, ◌++◌, codes, length, Option, None, Some, is_some, refl, ap, if◌then◌else◌}
 use Rattle.std.specs.List.{slice_set}
 use Rattle.std.specs.Str.{bytes_eq as text_eq}
 use Rattle.std.proofs.lemmas.List.Elements.{All-filter, All-push, All-set}

@@ -8,4 +8,6 @@ mod access;
 mod making;
 
 pub use access::{accesses_keep_graphs_valid, values_and_chains_stay};
-pub use making::{functions_are_made_valid, scopes_are_made_valid, slots_keep_graphs_valid};
+pub use making::{
+    functions_are_made_valid, intrinsics_are_valid, scopes_are_made_valid, slots_keep_graphs_valid,
+};

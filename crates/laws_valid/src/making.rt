@@ -10,11 +10,17 @@ ghost use Rattle.snap_graph.specs.declared.kind.ScopeKind.{ScopeKind};
 ghost use Rattle.snap_graph.specs.declared.node.Node.{Node};
 ghost use Rattle.snap_graph.specs.declared.value.Value.{Value};
 ghost use Rattle.snap_graph.specs.declared.value.Value.TheVariants.{Node as At};
+ghost use Rattle.snap_graph.specs.Intrinsics.{intrinsics};
 ghost use Rattle.spec_scopes.specs.declared.need.ScopeNeed.{ScopeNeed};
 ghost use Rattle.spec_scopes.specs.Valid.{IsChain, IsFunctionIn, IsValid};
 ghost use Rattle.spec_values.specs.Answer.{Gave, Heap, Stopped};
 ghost use Rattle.spec_values.specs.Operations.{make_function, make_scope, set_element};
 ghost use Rattle.laws_valid.specs.Leaving.{Anything, IsObject, IsOuter, IsScope, IsSlot, LeavesValid};
+
+/// The intrinsics, which every heap begins with, are a graph that is valid for whatever scripts.
+pub fn intrinsics_are_valid()
+    ensures { (scripts : List Tree) → IsValid intrinsics scripts }
+{}
 
 /// A function that stands in its script in scopes as those that it closes over is made valid: the graph that is left is
 /// valid, and the number given is that of a node that is no scope. Where there are too many nodes the heap is as it was.
