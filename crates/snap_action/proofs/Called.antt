@@ -21,7 +21,7 @@ use Rattle.snap_store.specs.declared.store.Store.{Ghosts}
 use Rattle.snap_store.specs.View.{View, with_logged, with_made, with_nodes}
 use Rattle.spec_values.specs.Access.{is_array}
 use Rattle.spec_values.specs.Answer.{Action, Gave, Stopped as StoppedAt, use_key}
-use Rattle.spec_values.specs.Operations.{add_element, elements_of, kind_of, make, push_element, put_own, with_more, with_own}
+use Rattle.spec_values.specs.Operations.{add_element, elements_of, kind_of, make, push_element, put_own, with_elements, with_more, with_own}
 use Rattle.snap_action.specs.declared.errors.ErrorKind.{ErrorKind}
 use Rattle.snap_action.specs.declared.errors.ErrorKind.TheVariants as errors
 use Rattle.snap_action.specs.declared.fault.Abrupt.{Abrupt}
@@ -114,7 +114,7 @@ module _ {S H : Type 0} {store : Ghosts S H} {first last : S} where
       → (result : Result (Unit {0}) (Abrupt H)) → IsErrAnd result (λ fault. fault ≡ abrupt_of why) → Gives store first last as_is result (add_element number value)
   add_refused number value TooManyNodes k e h result is = absurd e
   add_refused number value TooLong k full h result is = absurd (false≢true (sym (ap (λ (b : Bool). b && nat_le MOST_ITEMS (length (elements_of (store.view first).nodes number))) k) ∙ full))
-  add_refused number value NoMemory k e h result is = unmet h (change_grows (λ nodes. with_more nodes number value)) result is
+  add_refused number value NoMemory k e h result is = unmet h (change_grows (with_elements (λ elements. elements ++ value ∷ [])) number) result is
 
 -- the prototypes of errors are there
 read_back : (nodes : List Node) (count number : ℕ) (node : Node) → slice_get (take count nodes) number ≡ Some node → slice_get nodes number ≡ Some node

@@ -10,7 +10,7 @@ use Rattle.snap_graph.specs.declared.value.Value.{Value}
 use Rattle.snap_graph.specs.declared.value.Value.TheVariants.{Text, Node as At}
 use Rattle.spec_values.specs.Access.{or_stop, throw_error}
 use Rattle.spec_values.specs.Answer.{Action, Heap, HeapAnswer, Stopped, give, stop, throw_value, use_key}
-use Rattle.spec_values.specs.Operations.{change, elements_of, make, own_value, properties_of, push_element, put_own, remove_own, see}
+use Rattle.spec_values.specs.Operations.{change_at, elements_of, make, own_value, properties_of, push_element, put_own, remove_own, see}
 use Rattle.spec_values.specs.State.{Precedes, heap_progress, left_by}
 use Rattle.snap_action.proofs.Follows.{Grows, begun_at_once, grows_then, precedes_itself}
 
@@ -37,8 +37,8 @@ use_grows name = record { on = λ heap. record { keys = (name ∷ [], refl); pri
 pub see_grows : {A : Type 0} (look : List Node → A) → Goes (see look)
 see_grows look = record { on = λ heap. precedes_itself (heap_progress heap) }
 
-pub change_grows : (make : List Node → List Node) → Goes (change make)
-change_grows make = record { on = λ heap. precedes_itself (heap_progress heap) }
+pub change_grows : (change : Node → Node) (number : ℕ) → Goes (change_at change number)
+change_grows change number = record { on = λ heap. precedes_itself (heap_progress heap) }
 
 pub remove_grows : (number : ℕ) (key : List ℕ) → Goes (remove_own number key)
 remove_grows number key = record { on = λ heap. precedes_itself (heap_progress heap) }

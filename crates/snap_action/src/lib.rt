@@ -25,4 +25,4 @@ pub use looks::{
     read_element,
 };
 pub use names::{Name, use_name};
-pub use texts::{hold_again, join_texts, part_of_text, text_length};
+pub use texts::{hold_again, is_text, join_texts, part_of_text, text_length};

@@ -1,6 +1,6 @@
 //! Literals, which a store holds once however often they are evaluated.
 
-ghost use Rattle.std.specs.Prelude.{◌≡◌, None, length};
+ghost use Rattle.std.specs.Prelude.{◌≡◌, None, IsSome, OnOk, length};
 ghost use Rattle.snap_action.specs.Gives.{Gives, as_held};
 ghost use Rattle.snap_action.specs.Literals.{StandsFor};
 ghost use Rattle.snap_graph.specs.Values.{IsPlace};
@@ -48,6 +48,8 @@ pub fn hold_literal<S: Store>(
     ensures view { S.view store.new ≡ S.view store.old }
     ensures value { literal.new.value ≡ literal.old.value }
     ensures known { StandsFor S.Store store.new literal.new }
+    ensures kept { OnOk result (IsSome literal.new.held) }
+    ensures stays { IsSome literal.old.held → literal.new ≡ literal.old }
 {
     match &literal.held {
         Some(held) => hold_again(store, held),
@@ -66,6 +68,7 @@ fn hold_first<S: Store>(
     ensures view { S.view store.new ≡ S.view store.old }
     ensures value { literal.new.value ≡ literal.old.value }
     ensures known { StandsFor S.Store store.new literal.new }
+    ensures kept { OnOk result (IsSome literal.new.held) }
 {
     let first = hold_value(store, &literal.value)?;
     let held = hold_again(store, &first)?;

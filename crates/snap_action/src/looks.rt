@@ -1,8 +1,8 @@
 //! Calls of a store that look at what it stands for, as the actions that they are.
 
-ghost use Rattle.std.specs.Prelude.{◌≡◌, ◌<◌, Some, Ok, length, slice_get};
+ghost use Rattle.std.specs.Prelude.{◌≡◌, ◌<◌, Some, Ok, length};
 ghost use Rattle.snap_action.specs.Gives.{Gives, as_held, as_is, as_some};
-ghost use Rattle.spec_values.specs.Operations.{elements_of, is_frozen, kind_of, own_keys_of, own_value, prototype_of, see};
+ghost use Rattle.spec_values.specs.Operations.{count_at, element_at, elements_of, frozen_at, kind_at, own_at, own_keys_at, prototype_at};
 
 use crate::fault::Abrupt;
 use snap_base::Items;
@@ -13,7 +13,7 @@ use snap_text::{Key, Units};
 /// What a node is.
 pub fn kind_of_node<S: Store>(store: &S, node: u32) -> Kind
     requires { node < length (S.view store.now).nodes }
-    ensures { Gives S.Store store.now store.now (as_some as_is) (Ok (Some result)) (see (λ nodes. kind_of nodes node)) }
+    ensures { Gives S.Store store.now store.now (as_some as_is) (Ok (Some result)) (kind_at node) }
 {
     store.kind(node)
 }
@@ -21,7 +21,7 @@ pub fn kind_of_node<S: Store>(store: &S, node: u32) -> Kind
 /// The prototype of a node.
 pub fn prototype_of<S: Store>(store: &S, node: u32) -> S::Held
     requires { node < length (S.view store.now).nodes }
-    ensures { Gives S.Store store.now store.now (as_some (as_held S.Store store.now)) (Ok (Some result)) (see (λ nodes. prototype_of nodes node)) }
+    ensures { Gives S.Store store.now store.now (as_some (as_held S.Store store.now)) (Ok (Some result)) (prototype_at node) }
 {
     store.prototype(node)
 }
@@ -29,7 +29,7 @@ pub fn prototype_of<S: Store>(store: &S, node: u32) -> S::Held
 /// Whether a node is frozen.
 pub fn is_frozen<S: Store>(store: &S, node: u32) -> bool
     requires { node < length (S.view store.now).nodes }
-    ensures { Gives S.Store store.now store.now as_is (Ok result) (see (λ nodes. is_frozen nodes node)) }
+    ensures { Gives S.Store store.now store.now as_is (Ok result) (frozen_at node) }
 {
     store.is_frozen(node)
 }
@@ -38,7 +38,7 @@ pub fn is_frozen<S: Store>(store: &S, node: u32) -> bool
 pub fn own_property<S: Store>(store: &S, node: u32, text: &Units, key: Key) -> Option<S::Held>
     requires number { node < length (S.view store.now).nodes }
     requires key { S.key_of store.now text.now ≡ Some key }
-    ensures { Gives S.Store store.now store.now (as_some (as_held S.Store store.now)) (Ok result) (see (λ nodes. own_value nodes node text.now)) }
+    ensures { Gives S.Store store.now store.now (as_some (as_held S.Store store.now)) (Ok result) (own_at node text.now) }
 {
     store.own(node, key)
 }
@@ -46,7 +46,7 @@ pub fn own_property<S: Store>(store: &S, node: u32, text: &Units, key: Key) -> O
 /// The texts of a node's own keys, in the order of own keys (ECMA-262, 10.1.11).
 pub fn list_own_keys<S: Store>(store: &S, node: u32) -> Result<Items<Units>, Abrupt<S::Held>>
     requires { node < length (S.view store.now).nodes }
-    ensures { Gives S.Store store.now store.now as_is result (see (λ nodes. own_keys_of nodes node)) }
+    ensures { Gives S.Store store.now store.now as_is result (own_keys_at node) }
 {
     Ok(Items::from_vec(store.own_keys(node)?))
 }
@@ -54,7 +54,7 @@ pub fn list_own_keys<S: Store>(store: &S, node: u32) -> Result<Items<Units>, Abr
 /// How many elements a node has.
 pub fn count_elements<S: Store>(store: &S, node: u32) -> u32
     requires { node < length (S.view store.now).nodes }
-    ensures { Gives S.Store store.now store.now as_is (Ok result) (see (λ nodes. length (elements_of nodes node))) }
+    ensures { Gives S.Store store.now store.now as_is (Ok result) (count_at node) }
 {
     store.count(node)
 }
@@ -63,7 +63,7 @@ pub fn count_elements<S: Store>(store: &S, node: u32) -> u32
 pub fn read_element<S: Store>(store: &S, node: u32, i: u32) -> S::Held
     requires number { node < length (S.view store.now).nodes }
     requires place { i < length (elements_of (S.view store.now).nodes node) }
-    ensures { Gives S.Store store.now store.now (as_some (as_held S.Store store.now)) (Ok (Some result)) (see (λ nodes. slice_get (elements_of nodes node) i)) }
+    ensures { Gives S.Store store.now store.now (as_some (as_held S.Store store.now)) (Ok (Some result)) (element_at node i) }
 {
     store.element(node, i)
 }

@@ -1,6 +1,6 @@
 //! Texts that a store holds, as they are joined and cut, and what is held again.
 
-ghost use Rattle.std.specs.Prelude.{◌≡◌, ◌≤◌, ◌-◌, IsSome, IfOk, drop, length, take};
+ghost use Rattle.std.specs.Prelude.{◌≡◌, ◌≤◌, ◌-◌, IsSome, IfOk, is_some, drop, length, take};
 ghost use Rattle.std.specs.Option.{option_map};
 ghost use Rattle.snap_action.specs.Gives.{Gives, as_held};
 ghost use Rattle.snap_graph.specs.declared.value.Value.TheVariants.{Text};
@@ -13,6 +13,14 @@ use crate::calls::{hold_value, read_value};
 use crate::fault::Abrupt;
 use snap_base::NoMemory;
 use snap_store::Store;
+
+/// Whether a text is held.
+pub fn is_text<S: Store>(store: &S, held: &S::Held) -> bool
+    requires { S.owns store.now held.now }
+    ensures { result ≡ is_some (text_units (S.meaning store.now held.now)) }
+{
+    store.text(held).is_some()
+}
 
 /// How many units a text has that is held; nothing where what is held is no text. Where they are 2^32 or more, the answer is
 /// want of memory.

@@ -6,8 +6,8 @@ use Rattle.snap_graph.specs.declared.intrinsic.TheConstants.{STRING_PROTOTYPE}
 use Rattle.snap_graph.specs.declared.value.Value.{Value}
 use Rattle.snap_graph.specs.declared.value.Value.TheVariants.{Undefined, Null, Bool as Truth, Int, Node as At, Text, Empty}
 use Rattle.snap_store.specs.Calls.{text_units, units_in}
-use Rattle.spec_values.specs.Access.{delete, found_or, is_size, is_special, is_there, look_up, reached_from, set, size_of, unit_or_undefined}
-use Rattle.spec_values.specs.Answer.{Heap, stop}
+use Rattle.spec_values.specs.Access.{delete, found_or, is_size, is_special, is_there, look_up, or_undefined, reached_from, set, size_of, unit_or_undefined}
+use Rattle.spec_values.specs.Answer.{◌>>=◌, Heap, followed, give, stop}
 use Rattle.spec_values.specs.Operations.{kind_of, own_value}
 use Rattle.snap_object.specs.Parts.{looked_up}
 use Rattle.snap_object.specs.Texts.{without_units}
@@ -69,8 +69,8 @@ text_without value e = ap without_units (is_its_text value e)
 -- a text has no `size`, as undefined has none
 module _ (text name : List ℕ) where
   step : (number : ℕ) (rest : List ℕ) (heap : Heap) → look_up Undefined name rest heap ≡ look_up (Text text) name rest heap → (b c : Bool) (own : Option Value)
-      → (if b then stop NotInProfile else (if c then size_of number Undefined else found_or own (look_up Undefined name rest))) heap
-      ≡ (if b then stop NotInProfile else (if c then size_of number (Text text) else found_or own (look_up (Text text) name rest))) heap
+      → (if b then stop NotInProfile else (if c then (size_of number Undefined >>= λ size. give (Some size)) else found_or own (look_up Undefined name rest))) heap
+      ≡ (if b then stop NotInProfile else (if c then (size_of number (Text text) >>= λ size. give (Some size)) else found_or own (look_up (Text text) name rest))) heap
   step number rest heap further true c own = refl
   step number rest heap further false true own = refl
   step number rest heap further false false (Some value) = refl
@@ -81,7 +81,7 @@ module _ (text name : List ℕ) where
   walk_alike (number ∷ rest) heap = step number rest heap (walk_alike rest heap) (is_special (kind_of heap.nodes number) name) (is_size number name) (own_value heap.nodes number name)
 
   pub look_up_alike : (heap : Heap) → looked_up Undefined name STRING_PROTOTYPE heap ≡ looked_up (Text text) name STRING_PROTOTYPE heap
-  look_up_alike heap = walk_alike (reached_from heap.nodes STRING_PROTOTYPE) heap
+  look_up_alike heap = ap (λ answer. followed answer (λ found. give (or_undefined found))) (walk_alike (reached_from heap.nodes STRING_PROTOTYPE) heap)
 
 -- one unit of a text
 pub one_unit : (text : List ℕ) (place : ℕ) → place < length text → Text (take (place + 1 - place) (drop place text)) ≡ unit_or_undefined (slice_get text place)

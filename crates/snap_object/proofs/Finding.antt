@@ -1,5 +1,5 @@
 -- Reading a property, part by part.
-use Rattle.std.proofs.Common.{◌≡◌, ℕ, ◌≤◌, ◌<◌, arith, Bool, true, false, pos, List, codes, length, slice_get, Option, None, Some, Result, Err, refl, sym, ap, ◌∙◌, if◌then◌else◌, unwrap_or}
+use Rattle.std.proofs.Common.{◌≡◌, ℕ, ◌≤◌, ◌<◌, arith, Bool, true, false, List, codes, length, slice_get, Option, None, Some, Result, Err, refl, sym, ap, ◌∙◌, if◌then◌else◌, unwrap_or}
 use Rattle.std.specs.Str.{bytes_eq as text_eq}
 use Rattle.std.proofs.lemmas.Option.{slice_get_past}
 use Rattle.snap_base.specs.declared.stop.Stop.TheVariants.{NotInProfile}
@@ -8,7 +8,7 @@ use Rattle.snap_graph.specs.declared.node.Node.{Node}
 use Rattle.snap_graph.specs.Lawful.{IsLawful}
 use Rattle.snap_graph.specs.declared.value.Value.{Value}
 use Rattle.snap_graph.specs.declared.value.Value.TheVariants.{Undefined, Null, Bool as Truth, Int, Node as At, Text, Empty}
-use Rattle.spec_values.specs.Access.{get, get_of_node, index_of, is_array, is_length, look_up, named_key, reached_from}
+use Rattle.spec_values.specs.Access.{count_value, get, get_of_node, index_of, is_array, is_length, named_key, reached_from, read_along}
 use Rattle.spec_values.specs.Answer.{◌>>=◌, Gave, Heap, give, stop}
 use Rattle.spec_values.specs.Operations.{elements_of, kind_of}
 use Rattle.snap_action.specs.declared.fault.Abrupt.{Abrupt}
@@ -30,23 +30,23 @@ outside_so {A = A} {store = store} {first = first} {shows = shows} key {fault = 
 
 module _ {S H R : Type 0} {store : Ghosts S H} {first last : S} {shows : Shows R (Value)} {result : Result R (Abrupt H)} where
   -- the two ways of a name
-  pub text_length : (text name : List ℕ) → text_eq name (codes "length") ≡ true → Gives store first last shows result (give (Int (pos (length text)))) → Gives store first last shows result (text_rest text name)
+  pub text_length : (text name : List ℕ) → text_eq name (codes "length") ≡ true → Gives store first last shows result (count_value (length text)) → Gives store first last shows result (text_rest text name)
   text_length text name e h =
-      alike (give (Int (pos (length text)))) (text_rest text name) (λ keys. ap (λ (b : Bool). (if b then give (Int (pos (length text))) else look_up (Text text) name (reached_from (store.view first).nodes STRING_PROTOTYPE)) (standing (store.view first) keys)) (sym e)) h
+      alike (count_value (length text)) (text_rest text name) (λ keys. ap (λ (b : Bool). (if b then count_value (length text) else read_along (Text text) name (reached_from (store.view first).nodes STRING_PROTOTYPE)) (standing (store.view first) keys)) (sym e)) h
 
   pub text_other : (text name : List ℕ) → text_eq name (codes "length") ≡ false → Gives store first last shows result (looked_up (Text text) name STRING_PROTOTYPE) → Gives store first last shows result (text_rest text name)
   text_other text name e h =
-      alike (looked_up (Text text) name STRING_PROTOTYPE) (text_rest text name) (λ keys. ap (λ (b : Bool). (if b then give (Int (pos (length text))) else look_up (Text text) name (reached_from (store.view first).nodes STRING_PROTOTYPE)) (standing (store.view first) keys)) (sym e)) h
+      alike (looked_up (Text text) name STRING_PROTOTYPE) (text_rest text name) (λ keys. ap (λ (b : Bool). (if b then count_value (length text) else read_along (Text text) name (reached_from (store.view first).nodes STRING_PROTOTYPE)) (standing (store.view first) keys)) (sym e)) h
 
-  pub node_length : (number : ℕ) (name : List ℕ) → is_length (store.view first).nodes number name ≡ true → Gives store first last shows result (give (Int (pos (length (elements_of (store.view first).nodes number))))) → Gives store first last shows result (node_rest number name)
+  pub node_length : (number : ℕ) (name : List ℕ) → is_length (store.view first).nodes number name ≡ true → Gives store first last shows result (count_value (length (elements_of (store.view first).nodes number))) → Gives store first last shows result (node_rest number name)
   node_length number name e h =
-      alike (give (Int (pos (length (elements_of (store.view first).nodes number))))) (node_rest number name)
-      (λ keys. ap (λ (b : Bool). (if b then give (Int (pos (length (elements_of (store.view first).nodes number)))) else look_up (At number) name (reached_from (store.view first).nodes number)) (standing (store.view first) keys)) (sym e)) h
+      alike (count_value (length (elements_of (store.view first).nodes number))) (node_rest number name)
+      (λ keys. ap (λ (b : Bool). (if b then count_value (length (elements_of (store.view first).nodes number)) else read_along (At number) name (reached_from (store.view first).nodes number)) (standing (store.view first) keys)) (sym e)) h
 
   pub node_other : (number : ℕ) (name : List ℕ) → is_length (store.view first).nodes number name ≡ false → Gives store first last shows result (looked_up (At number) name number) → Gives store first last shows result (node_rest number name)
   node_other number name e h =
       alike (looked_up (At number) name number) (node_rest number name)
-      (λ keys. ap (λ (b : Bool). (if b then give (Int (pos (length (elements_of (store.view first).nodes number)))) else look_up (At number) name (reached_from (store.view first).nodes number)) (standing (store.view first) keys)) (sym e)) h
+      (λ keys. ap (λ (b : Bool). (if b then count_value (length (elements_of (store.view first).nodes number)) else read_along (At number) name (reached_from (store.view first).nodes number)) (standing (store.view first) keys)) (sym e)) h
 
   -- an element that is there, or is not
   pub element_there : (number place : ℕ) (value : Value) → slice_get (elements_of (store.view first).nodes number) place ≡ Some value → Gives store first last shows result (give value) → Gives store first last shows result (element_read number place)

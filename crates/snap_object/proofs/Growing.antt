@@ -1,31 +1,30 @@
 -- Property access goes on from the heap in which it begins.
-use Rattle.std.proofs.Common.{ℕ, ◌==◌, true, nat_lt, pos, List, [], ◌∷◌, codes, length, slice_get, Option, None, Some, is_some, Result, Ok, Err, if◌then◌else◌}
+use Rattle.std.proofs.Common.{ℕ, ◌==◌, true, nat_lt, pos, List, [], ◌∷◌, codes, length, slice_get, slice_set, Option, None, Some, is_some, Result, Ok, Err, if◌then◌else◌}
 use Rattle.std.specs.Str.{bytes_eq as text_eq}
 use Rattle.snap_base.specs.declared.stop.Stop.{Stop}
 use Rattle.snap_base.specs.declared.stop.Stop.TheVariants.{NotInProfile}
 use Rattle.snap_graph.specs.declared.intrinsic.TheConstants.{STRING_PROTOTYPE, TYPE_ERROR_PROTOTYPE}
 use Rattle.snap_graph.specs.declared.value.Value.{Value}
 use Rattle.snap_graph.specs.declared.value.Value.TheVariants.{Undefined, Null, Bool as Truth, Int, Text, Node as At, Empty}
-use Rattle.spec_values.specs.Access.{delete, delete_named, delete_of_node, delete_of_text, element_of, element_or_undefined, entry_count, found_or, get, get_of_node, get_of_text, index_of, is_length, is_size, is_special, look_up, may_write, named_key, not_writable, or_stop, reached_from, set, set_element_of, set_named, set_of_node, set_of_text, size_of, size_or_throw, unit_or_undefined}
-use Rattle.spec_values.specs.Answer.{Action, give, stop, use_key}
-use Rattle.spec_values.specs.Conversions.{text_of}
-use Rattle.spec_values.specs.Operations.{elements_of, is_frozen, kind_of, own_value, put_own, remove_own, with_element}
+use Rattle.spec_values.specs.Access.{count_value, delete, delete_named, delete_of_node, delete_of_text, element_of, entry_count, found_or, get, get_of_node, get_of_text, index_of, is_length, is_size, is_special, look_up, may_write, named_key, not_writable, or_stop, or_undefined, reached_from, read_along, set, set_element_of, set_named, set_of_node, set_of_text, size_of, size_or_throw, unit_or_undefined}
+use Rattle.spec_values.specs.Answer.{◌>>=◌, Action, give, stop, use_key}
+use Rattle.spec_values.specs.Conversions.{safe, text_of}
+use Rattle.spec_values.specs.Operations.{elements_of, is_frozen, kind_of, own_value, put_own, remove_own, with_elements}
 use Rattle.snap_action.proofs.Follows.{grows_then}
-use Rattle.snap_action.proofs.Growing.{Goes, by_heap_grows, change_grows, chosen_grows, error_grows, give_grows, push_grows, put_grows, remove_grows, stop_grows, use_grows}
-use Rattle.snap_object.specs.Parts.{is_kept, is_outside, looked_up, may_write_from, node_rest, outside, put_unless_frozen, refused, text_rest, without}
-
-or_stop_grows : {A : Type 0} (result : Result A Stop) → Goes (or_stop result)
-or_stop_grows (Ok x) = give_grows x
-or_stop_grows (Err why) = stop_grows why
+use Rattle.snap_action.proofs.Growing.{Goes, by_heap_grows, change_grows, chosen_grows, error_grows, give_grows, or_stop_grows, push_grows, put_grows, remove_grows, stop_grows, use_grows}
+use Rattle.snap_object.specs.Parts.{found_from, is_kept, is_outside, looked_up, may_write_from, node_rest, outside, put_unless_frozen, refused, text_rest, without}
 
 pub named_grows : (key : Value) → Goes (named_key key)
 named_grows key =
     grows_then (or_stop (text_of key)) _ (or_stop_grows (text_of key)) (λ name.
     grows_then (use_key name) _ (use_grows name) (λ used. chosen_grows (text_eq name (codes "__proto__")) (stop NotInProfile) (give name) (stop_grows NotInProfile) (give_grows name)))
 
+pub count_grows : (n : ℕ) → Goes (count_value n)
+count_grows n = or_stop_grows (safe (pos n))
+
 size_grows : (found : Option ℕ) → Goes (size_or_throw found)
 size_grows None = error_grows TYPE_ERROR_PROTOTYPE (codes "wrong receiver")
-size_grows (Some n) = give_grows (Int (pos n))
+size_grows (Some n) = count_grows n
 
 pub size_of_grows : (prototype : ℕ) (base : Value) → Goes (size_of prototype base)
 size_of_grows prototype Undefined = size_grows None
@@ -36,16 +35,19 @@ size_of_grows prototype (Text text) = size_grows None
 size_of_grows prototype (At base) = by_heap_grows (λ heap. size_or_throw (entry_count prototype (kind_of heap.nodes base) (elements_of heap.nodes base))) (λ heap. size_grows (entry_count prototype (kind_of heap.nodes base) (elements_of heap.nodes base)))
 size_of_grows prototype Empty = size_grows None
 
-found_grows : (found : Option Value) (further : Action Value) → Goes further → Goes (found_or found further)
+found_grows : (found : Option Value) (further : Action (Option Value)) → Goes further → Goes (found_or found further)
 found_grows None further f = f
-found_grows (Some held) further f = give_grows held
+found_grows (Some held) further f = give_grows (Some held)
+
+pub size_found_grows : (prototype : ℕ) (base : Value) → Goes (size_of prototype base >>= λ size. give (Some size))
+size_found_grows prototype base = grows_then (size_of prototype base) _ (size_of_grows prototype base) (λ size. give_grows (Some size))
 
 pub look_up_grows : (base : Value) (name numbers : List ℕ) → Goes (look_up base name numbers)
-look_up_grows base name [] = give_grows Undefined
+look_up_grows base name [] = give_grows None
 look_up_grows base name (number ∷ rest) = record {
   on = λ heap.
       (chosen_grows (is_special (kind_of heap.nodes number) name) _ _ (stop_grows NotInProfile)
-      (chosen_grows (is_size number name) _ _ (size_of_grows number base) (found_grows (own_value heap.nodes number name) _ (look_up_grows base name rest)))).on heap;
+      (chosen_grows (is_size number name) _ _ (size_found_grows number base) (found_grows (own_value heap.nodes number name) _ (look_up_grows base name rest)))).on heap;
 }
 
 pub may_write_grows : (name numbers : List ℕ) → Goes (may_write name numbers)
@@ -57,18 +59,24 @@ may_write_grows name (number ∷ rest) = record {
       (chosen_grows (is_some (own_value heap.nodes number name)) _ _ (chosen_grows (is_frozen heap.nodes number) _ _ (error_grows TYPE_ERROR_PROTOTYPE (codes "not writable")) (give_grows (tt {0}))) (may_write_grows name rest)))).on heap;
 }
 
+pub found_from_grows : (base : Value) (name : List ℕ) (from : ℕ) → Goes (found_from base name from)
+found_from_grows base name from = by_heap_grows (λ heap. look_up base name (reached_from heap.nodes from)) (λ heap. look_up_grows base name (reached_from heap.nodes from))
+
 pub looked_up_grows : (base : Value) (name : List ℕ) (from : ℕ) → Goes (looked_up base name from)
-looked_up_grows base name from = by_heap_grows (λ heap. look_up base name (reached_from heap.nodes from)) (λ heap. look_up_grows base name (reached_from heap.nodes from))
+looked_up_grows base name from = grows_then (found_from base name from) _ (found_from_grows base name from) (λ found. give_grows (or_undefined found))
+
+along_grows : (base : Value) (name numbers : List ℕ) → Goes (read_along base name numbers)
+along_grows base name numbers = grows_then (look_up base name numbers) _ (look_up_grows base name numbers) (λ found. give_grows (or_undefined found))
 
 pub text_rest_grows : (text name : List ℕ) → Goes (text_rest text name)
 text_rest_grows text name =
-    by_heap_grows (λ heap. if text_eq name (codes "length") then give (Int (pos (length text))) else look_up (Text text) name (reached_from heap.nodes STRING_PROTOTYPE))
-    (λ heap. chosen_grows (text_eq name (codes "length")) _ _ (give_grows (Int (pos (length text)))) (look_up_grows (Text text) name (reached_from heap.nodes STRING_PROTOTYPE)))
+    by_heap_grows (λ heap. if text_eq name (codes "length") then count_value (length text) else read_along (Text text) name (reached_from heap.nodes STRING_PROTOTYPE))
+    (λ heap. chosen_grows (text_eq name (codes "length")) _ _ (count_grows (length text)) (along_grows (Text text) name (reached_from heap.nodes STRING_PROTOTYPE)))
 
 pub node_rest_grows : (number : ℕ) (name : List ℕ) → Goes (node_rest number name)
 node_rest_grows number name =
-    by_heap_grows (λ heap. if is_length heap.nodes number name then give (Int (pos (length (elements_of heap.nodes number)))) else look_up (At number) name (reached_from heap.nodes number))
-    (λ heap. chosen_grows (is_length heap.nodes number name) _ _ (give_grows (Int (pos (length (elements_of heap.nodes number))))) (look_up_grows (At number) name (reached_from heap.nodes number)))
+    by_heap_grows (λ heap. if is_length heap.nodes number name then count_value (length (elements_of heap.nodes number)) else read_along (At number) name (reached_from heap.nodes number))
+    (λ heap. chosen_grows (is_length heap.nodes number name) _ _ (count_grows (length (elements_of heap.nodes number))) (along_grows (At number) name (reached_from heap.nodes number)))
 
 -- what goes on by the name that a key is
 outside_grows : {A : Type 0} (key : Value) → Goes (outside {A = A} key)
@@ -82,7 +90,7 @@ get_of_text_grows text key (Some place) = give_grows (unit_or_undefined (slice_g
 get_of_text_grows text key None = grows_then (named_key key) (text_rest text) (named_grows key) (text_rest_grows text)
 
 get_of_node_grows : (number : ℕ) (key : Value) (place : Option ℕ) → Goes (get_of_node number key place)
-get_of_node_grows number key (Some place) = by_heap_grows (λ heap. give (element_or_undefined (elements_of heap.nodes number) place)) (λ heap. give_grows (element_or_undefined (elements_of heap.nodes number) place))
+get_of_node_grows number key (Some place) = by_heap_grows (λ heap. give (or_undefined (slice_get (elements_of heap.nodes number) place))) (λ heap. give_grows (or_undefined (slice_get (elements_of heap.nodes number) place)))
 get_of_node_grows number key None = grows_then (named_key key) (node_rest number) (named_grows key) (node_rest_grows number)
 
 pub get_grows : (base key : Value) → Goes (get base key)
@@ -118,7 +126,7 @@ set_element_grows : (number place : ℕ) (value : Value) → Goes (set_element_o
 set_element_grows number place value = record {
   on = λ heap.
       (chosen_grows (is_frozen heap.nodes number) _ _ refuses_grows
-      (chosen_grows (nat_lt place (length (elements_of heap.nodes number))) _ _ (change_grows (λ nodes. with_element nodes number place value))
+      (chosen_grows (nat_lt place (length (elements_of heap.nodes number))) _ _ (change_grows (with_elements (λ elements. slice_set elements place value)) number)
       (chosen_grows (place == length (elements_of heap.nodes number)) _ _ (push_grows number value) (stop_grows NotInProfile)))).on heap;
 }
 

@@ -1,12 +1,15 @@
 -- Names in place of keys.
-use Rattle.std.proofs.Common.{◌≡◌, ◌<◌, ◌^◌, ℕ, ℤ, pos, negsuc, FitsSigned, unsigned_abs, w64, arith, Bool, true, false, List, codes, Option, None, Some, Result, Ok, Err, refl, sym, ap, ◌∙◌, if◌then◌else◌}
+use Rattle.std.proofs.Common.{◌≡◌, ◌<◌, ◌^◌, ◌&&◌, ℕ, nat_lt, ℤ, pos, negsuc, FitsSigned, unsigned_abs, w64, arith, Bool, true, false, List, codes, Option, None, Some, Result, Ok, Err, refl, sym, ap, ◌∙◌, if◌then◌else◌}
+use Rattle.std.specs.Fmt.{decimal}
 use Rattle.std.specs.Str.{bytes_eq as text_eq}
+use Rattle.std.specs.Str.Parse.{digits_value}
+use Rattle.std.proofs.lemmas.Bool.{and_parts, ltb-true}
 use Rattle.snap_base.specs.declared.stop.Stop.{Stop}
 use Rattle.snap_base.specs.declared.stop.Stop.TheVariants.{NotInProfile}
 use Rattle.snap_graph.specs.declared.node.Node.{Node}
 use Rattle.snap_graph.specs.declared.value.Value.{Value}
 use Rattle.snap_graph.specs.declared.value.Value.TheVariants.{Undefined, Null, Bool as Truth, Int, Text, Node as At, Empty}
-use Rattle.snap_graph.specs.OwnKeys.{array_index}
+use Rattle.snap_graph.specs.OwnKeys.{array_index, index_end}
 use Rattle.snap_store.specs.declared.store.Store.{Ghosts}
 use Rattle.snap_text.specs.declared.key.Key.{Key}
 use Rattle.snap_text.specs.Keys.{Keeps}
@@ -165,6 +168,26 @@ module _ (key : Value) (none : text_of key ≡ Err NotInProfile) where
 -- a key is this value, whose text is known
 pub text_so : (key value : Value) (text : List ℕ) → key ≡ value → IsNarrow value → text_of value ≡ Ok text → (text_of key ≡ Ok text) × (index_of key ≡ array_index text)
 text_so key value text same narrow e = (ap text_of same ∙ e, ap index_of same ∙ index_kept value text narrow e)
+
+-- an index is below their end
+chosen_below : (b : Bool) (n place : ℕ) → (if b then Some n else None) ≡ Some place → (b ≡ true → n < index_end) → place < index_end
+chosen_below true n place e f = let same : n ≡ place = cc in omega (arith, f refl, same)
+chosen_below false n place e f = absurd cc
+
+pub text_below : (text : List ℕ) (place : ℕ) → array_index text ≡ Some place → place < index_end
+text_below text place e =
+    let n = digits_value 10 text in
+    chosen_below (nat_lt n index_end && text_eq text (decimal n)) n place e (λ both. ltb-true n index_end (and_parts (nat_lt n index_end) (text_eq text (decimal n)) both).0)
+
+pub index_below : (key : Value) (place : ℕ) → index_of key ≡ Some place → place < index_end
+index_below Undefined place e = absurd cc
+index_below Null place e = absurd cc
+index_below (Truth b) place e = absurd cc
+index_below (Int (pos n)) place e = chosen_below (nat_lt n index_end) n place e (ltb-true n index_end)
+index_below (Int (negsuc n)) place e = absurd cc
+index_below (Text text) place e = text_below text place e
+index_below (At node) place e = absurd cc
+index_below Empty place e = absurd cc
 
 -- a number of 64 bits
 pub narrow : (z : ℤ) → FitsSigned w64 z → unsigned_abs z < 2 ^ 64

@@ -6,11 +6,11 @@ use Rattle.snap_graph.specs.declared.intrinsic.TheConstants.{STRING_PROTOTYPE}
 use Rattle.snap_graph.specs.declared.node.Node.{Node}
 use Rattle.snap_graph.specs.declared.value.Value.{Value}
 use Rattle.snap_graph.specs.declared.value.Value.TheVariants.{Undefined, Null, Bool as Truth, Int, Node as At, Text, Empty}
-use Rattle.spec_values.specs.Access.{element_or_undefined, is_length, is_size, is_special, look_up, may_write, named_key, no_properties, not_writable, reached_from}
+use Rattle.spec_values.specs.Access.{count_value, is_length, is_size, is_special, look_up, may_write, named_key, names_length, no_properties, not_writable, or_undefined, reached, reached_from, read_along}
 use Rattle.spec_values.specs.Answer.{◌>>=◌, Action, give, stop}
 use Rattle.snap_object.specs.declared.search.Found.{Found}
 use Rattle.snap_object.specs.declared.search.Found.TheVariants.{Special, Size, Own, Absent}
-use Rattle.spec_values.specs.Operations.{elements_of, is_frozen, kind_of, own_value, put_own, remove_own}
+use Rattle.spec_values.specs.Operations.{count_at, element_at, is_frozen, kind_at, kind_of, own_value, put_own, remove_own}
 
 -- a key is used, and what follows is not in this profile
 abbrev pub outside : {A : Type 0} → Value → Action A
@@ -26,22 +26,26 @@ unspelled (Text text) = stop NotInProfile
 unspelled (At number) = stop NotInProfile
 unspelled Empty = stop NotInProfile
 
--- looking a key up from a node on
+-- looking a key up from a node on, and reading it there
+abbrev pub found_from : Value → List ℕ → ℕ → Action (Option Value)
+found_from base name from = reached from >>= λ numbers. look_up base name numbers
+
 abbrev pub looked_up : Value → List ℕ → ℕ → Action Value
-looked_up base name from heap = look_up base name (reached_from heap.nodes from) heap
+looked_up base name from = found_from base name from >>= λ found. give (or_undefined found)
 
 -- reading an element
 abbrev pub element_read : ℕ → ℕ → Action Value
-element_read number place heap = give (element_or_undefined (elements_of heap.nodes number) place) heap
+element_read number place = element_at number place >>= λ found. give (or_undefined found)
 
 -- reading a name from a text, and from a node
 abbrev pub text_rest : List ℕ → List ℕ → Action Value
-text_rest text name heap =
-    (if text_eq name (codes "length") then give (Int (pos (length text))) else look_up (Text text) name (reached_from heap.nodes STRING_PROTOTYPE)) heap
+text_rest text name =
+    reached STRING_PROTOTYPE >>= λ numbers. if text_eq name (codes "length") then count_value (length text) else read_along (Text text) name numbers
 
 abbrev pub node_rest : ℕ → List ℕ → Action Value
-node_rest number name heap =
-    (if is_length heap.nodes number name then give (Int (pos (length (elements_of heap.nodes number)))) else look_up (At number) name (reached_from heap.nodes number)) heap
+node_rest number name =
+    kind_at number >>= λ kind. count_at number >>= λ count. reached number >>= λ numbers.
+    if names_length kind name then count_value count else read_along (At number) name numbers
 
 -- an index is no use of a key; a key is used, and what follows is not in this profile
 abbrev pub outside_unless : {A : Type 0} → Option ℕ → Value → Action A

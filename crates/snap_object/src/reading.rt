@@ -1,28 +1,28 @@
 //! Reading a property.
 
-ghost use Rattle.std.specs.Prelude.{◌≡◌, ◌<◌, None, Some, IfOk, IsSome, length, slice_get};
-ghost use Rattle.snap_action.specs.Gives.{Gives, as_held};
+ghost use Rattle.std.specs.Prelude.{◌≡◌, ◌<◌, None, Some, IsSome, length, slice_get};
+ghost use Rattle.snap_action.specs.Gives.{Gives, as_held, as_some};
 ghost use Rattle.snap_action.specs.Names.{IsKnown};
 ghost use Rattle.snap_graph.specs.declared.intrinsic.TheConstants.{STRING_PROTOTYPE};
 ghost use Rattle.snap_graph.specs.declared.value.Value.TheVariants.{Node as At, Text};
-ghost use Rattle.snap_graph.specs.OwnKeys.{array_index};
+ghost use Rattle.snap_graph.specs.OwnKeys.{array_index, index_end};
 ghost use Rattle.snap_graph.specs.Values.{IsPlace};
 ghost use Rattle.snap_object.specs.Names.{StaysKnown};
-ghost use Rattle.snap_object.specs.Parts.{element_read, looked_up, node_rest, text_rest};
+ghost use Rattle.snap_object.specs.Parts.{element_read, found_from, looked_up, node_rest, text_rest};
 ghost use Rattle.snap_store.specs.Calls.{text_units, units_in};
-ghost use Rattle.spec_values.specs.Access.{element_of, get, get_of_node, get_of_text, index_of, unit_or_undefined};
-ghost use Rattle.spec_values.specs.Answer.{give};
+ghost use Rattle.spec_values.specs.Access.{element_of, get, get_of_node, get_of_text, index_of, size_of, unit_or_undefined};
+ghost use Rattle.spec_values.specs.Answer.{◌>>=◌, give};
 
 use crate::errors::type_error;
 use crate::indices::{element_of, integer_index};
 use crate::names::{name_of, named_key};
 use crate::outside::{outside, unspelled};
 use crate::search::{Found, find};
-use crate::sizes::{count_value, size_of};
-use crate::texts::{is_text, named_by};
+use crate::sizes::{hold_count, size_of};
+use crate::texts::named_by;
 use crate::words::{is_array, is_length, is_word};
-use snap_action::{Abrupt, Name, hold_value, part_of_text, text_length};
-use snap_base::{NoMemory, Stop};
+use snap_action::{Abrupt, Name, hold_value, is_text, part_of_text};
+use snap_base::Stop;
 use snap_graph::{Value, intrinsic};
 use snap_store::Store;
 use snap_text::{Key, Units};
@@ -227,25 +227,26 @@ fn get_of_text<S: Store>(
 fn unit_of<S: Store>(store: &mut S, text: &S::Held, place: u32) -> Result<S::Held, Abrupt<S::Held>>
     requires owned { S.owns store.old text.now }
     requires text { IsSome (text_units (S.meaning store.old text.now)) }
+    requires index { place < index_end }
     ensures { Gives S.Store store.old store.new (as_held S.Store store.new) result
         (give (unit_or_undefined (slice_get (units_in (S.meaning store.old text.now)) place))) }
 {
-    let length = length_of(store, text)?;
-    if place < length {
+    let length = length_of(store, text);
+    if (place as usize) < length {
         part_of_text(store, text, place, place + 1)
     } else {
         hold_value(store, &Value::Undefined)
     }
 }
 
-// How many units a text has.
-fn length_of<S: Store>(store: &S, text: &S::Held) -> Result<u32, NoMemory>
+/// How many units a text has.
+pub(crate) fn length_of<S: Store>(store: &S, text: &S::Held) -> usize
     requires owned { S.owns store.now text.now }
     requires text { IsSome (text_units (S.meaning store.now text.now)) }
-    ensures { IfOk result (λ count. count ≡ length (units_in (S.meaning store.now text.now))) }
+    ensures { result ≡ length (units_in (S.meaning store.now text.now)) }
 {
-    match text_length(store, text)? {
-        Some(length) => Ok(length),
+    match store.text(text) {
+        Some(view) => view.len(),
         None => unreachable!(),
     }
 }
@@ -283,8 +284,8 @@ fn named_in_text<S: Store>(
     ensures { Gives S.Store store.old store.new (as_held S.Store store.new) result (text_rest (units_in (S.meaning store.old text.now)) name.now) }
 {
     if is_word(name, b"length") {
-        let length = length_of(store, text)?;
-        return hold_value(store, &count_value(length));
+        let length = length_of(store, text);
+        return hold_count(store, length);
     }
     look_up(
         alloc,
@@ -363,7 +364,7 @@ fn named_in_node<S: Store>(
 {
     if is_length(store, node, name) {
         let count = store.count(node);
-        return hold_value(store, &count_value(count));
+        return hold_count(store, count as usize);
     }
     look_up(alloc, store, base, name, key, node)
 }
@@ -382,10 +383,43 @@ fn look_up<S: Store>(
     requires key { S.key_of store.old name.now ≡ Some key }
     ensures { Gives S.Store store.old store.new (as_held S.Store store.new) result (looked_up base.now name.now from) }
 {
+    match find_value(alloc, store, base, name, key, from)? {
+        Some(held) => Ok(held),
+        None => hold_value(store, &Value::Undefined),
+    }
+}
+
+/// Looks a name up at a node and along its prototypes: what it holds, or nothing where it is absent.
+pub(crate) fn find_value<S: Store>(
+    alloc: Global,
+    store: &mut S,
+    base: &Value,
+    name: &Units,
+    key: Key,
+    from: u32,
+) -> Result<Option<S::Held>, Abrupt<S::Held>>
+    requires base { IsPlace (length (S.view store.old).nodes) base.now }
+    requires number { from < length (S.view store.old).nodes }
+    requires key { S.key_of store.old name.now ≡ Some key }
+    ensures { Gives S.Store store.old store.new (as_some (as_held S.Store store.new)) result (found_from base.now name.now from) }
+{
     match find(store, from, name, key)? {
         Found::Special => Err(Abrupt::Stopped(Stop::NotInProfile)),
-        Found::Size(prototype) => size_of(alloc, store, prototype, base),
-        Found::Own(_, found) => Ok(found),
-        Found::Absent => hold_value(store, &Value::Undefined),
+        Found::Size(prototype) => size_found(alloc, store, prototype, base),
+        Found::Own(_, found) => Ok(Some(found)),
+        Found::Absent => Ok(None),
     }
+}
+
+// The size of a base, which is there.
+fn size_found<S: Store>(
+    alloc: Global,
+    store: &mut S,
+    prototype: u32,
+    base: &Value,
+) -> Result<Option<S::Held>, Abrupt<S::Held>>
+    requires { IsPlace (length (S.view store.old).nodes) base.now }
+    ensures { Gives S.Store store.old store.new (as_some (as_held S.Store store.new)) result (size_of prototype base.now >>= λ size. give (Some size)) }
+{
+    Ok(Some(size_of(alloc, store, prototype, base)?))
 }

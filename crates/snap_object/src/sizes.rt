@@ -1,18 +1,16 @@
 //! `size` of Maps and Sets.
 
-ghost use Rattle.std.specs.Prelude.{◌≡◌, ◌<◌, pos, IfOk, count_by, length};
-ghost use Rattle.snap_graph.specs.declared.value.Value.TheVariants.{Int};
+ghost use Rattle.std.specs.Prelude.{◌≡◌, ◌<◌, IfOk, count_by, length};
 ghost use Rattle.snap_graph.specs.Lawful.{record_keys};
 ghost use Rattle.snap_graph.specs.Values.{IsPlace};
 ghost use Rattle.snap_action.specs.Gives.{Gives, as_held};
 ghost use Rattle.snap_object.specs.Sizes.{TellsWhether, entries_of};
-ghost use Rattle.spec_values.specs.Access.{entry_count, is_there, size_of};
+ghost use Rattle.spec_values.specs.Access.{count_value, entry_count, is_there, size_of};
 ghost use Rattle.spec_values.specs.Operations.{elements_of, kind_of};
 
 use crate::errors::type_error;
-use crate::texts::is_text;
-use snap_action::{Abrupt, hold_value};
-use snap_base::NoMemory;
+use snap_action::{Abrupt, hold_value, is_text};
+use snap_base::{NoMemory, Stop};
 use snap_graph::{Kind, Value, intrinsic};
 use snap_store::Store;
 use std::alloc::Global;
@@ -28,16 +26,23 @@ pub(crate) fn size_of<S: Store>(
     ensures { Gives S.Store store.old store.new (as_held S.Store store.new) result (size_of prototype base.now) }
 {
     match entries_of(store, prototype, base)? {
-        Some(count) => hold_value(store, &count_value(count)),
+        Some(count) => hold_count(store, count as usize),
         None => Err(type_error(alloc, store, b"wrong receiver")),
     }
 }
 
-/// A count as a value.
-pub(crate) fn count_value(count: u32) -> Value
-    ensures { result ≡ Int (pos count) }
+/// A number of units, elements or records as a value. One past the safe integers is none in this profile.
+pub(crate) fn hold_count<S: Store>(
+    store: &mut S,
+    count: usize,
+) -> Result<S::Held, Abrupt<S::Held>>
+    ensures { Gives S.Store store.old store.new (as_held S.Store store.new) result (count_value count) }
 {
-    Value::Int(i64::from(count))
+    if count < 9_007_199_254_740_992 {
+        hold_value(store, &Value::Int(count as i64))
+    } else {
+        Err(Abrupt::Stopped(Stop::NotSafeInteger))
+    }
 }
 
 // How many entries a base has, where it is what the prototype is of.

@@ -1,24 +1,15 @@
 //! Bases and keys that are texts, which are read where they stand.
 
-ghost use Rattle.std.specs.Prelude.{◌≡◌, is_some, IfOk, length};
+ghost use Rattle.std.specs.Prelude.{◌≡◌, IfOk, length};
 ghost use Rattle.snap_graph.specs.Values.{IsPlace};
 ghost use Rattle.snap_object.specs.Texts.{IsNamedBy, without_units};
-ghost use Rattle.snap_store.specs.Calls.{text_units};
 
-use snap_action::Name;
+use snap_action::{Name, is_text};
 use snap_base::NoMemory;
 use snap_graph::Value;
 use snap_store::Store;
 use snap_text::Units;
 use std::alloc::Global;
-
-/// Whether a text is held.
-pub(crate) fn is_text<S: Store>(store: &S, held: &S::Held) -> bool
-    requires { S.owns store.now held.now }
-    ensures { result ≡ is_some (text_units (S.meaning store.now held.now)) }
-{
-    store.text(held).is_some()
-}
 
 /// What a base is, but for the units of a text. What a write or a removal comes to hangs on none of them.
 pub(crate) fn base_of<S: Store>(alloc: Global, store: &S, held: &S::Held) -> Result<Value, NoMemory>

@@ -12,10 +12,10 @@ use Rattle.snap_graph.specs.Lawful.{IsLawful}
 use Rattle.snap_store.specs.Calls.{IsResource, MayStandIn}
 use Rattle.snap_store.specs.declared.plain_node.PlainNode.{PlainNode}
 use Rattle.snap_store.specs.declared.plain_node.PlainProperty.{PlainProperty}
-use Rattle.snap_store.specs.Keyed.{AreNodesKeyed, IsKeyed, IsNodeKeyed}
+use Rattle.snap_store.specs.Keyed.{AreNodesKeyed, IsNodeKeyed}
 use Rattle.snap_store.specs.Plain.{IsNodeWithin, IsPlaceOf, node_in, nodes_in, value_in}
 use Rattle.snap_text.specs.declared.key.Key.{Key}
-use Rattle.spec_values.specs.Operations.{changed, elements_of, is_frozen, kind_of, MayHold}
+use Rattle.spec_values.specs.Operations.{MayHold, changed, elements_of, is_frozen, kind_of}
 use Rattle.spec_values.proofs.Changes.{changed_same}
 
 -- one node is written over, by one that stands for the changed node
@@ -103,6 +103,3 @@ module _ (texts : List (List ℕ)) (nodes : List PlainNode) (number : ℕ) (node
   pub keeps_keyed : (key_of : List ℕ → Option Key) (new : PlainNode) → (IsNodeKeyed key_of node → IsNodeKeyed key_of new) → AreNodesKeyed key_of nodes → AreNodesKeyed key_of (set nodes number new)
   keeps_keyed key_of new kept all =
       All-set (IsNodeKeyed key_of) nodes number new (kept (subst (IsNodeKeyed key_of) (sym at) (All-get_or (IsNodeKeyed key_of) nodes number node below all))) all
-
-  pub properties_keyed : (key_of : List ℕ → Option Key) → AreNodesKeyed key_of nodes → All (IsKeyed key_of) node.properties.items
-  properties_keyed key_of all = subst (IsNodeKeyed key_of) (sym at) (All-get_or (IsNodeKeyed key_of) nodes number node below all)

@@ -79,3 +79,7 @@ module _ (texts : List (List ℕ)) (made : PlainNode) (properties : made.propert
 -- a heap of which one node is written over has come of what it was
 pub follows_set : (texts : List (List ℕ)) (nodes : List PlainNode) (number : ℕ) (new : PlainNode) → Extends texts texts × (length nodes ≤ length (set nodes number new))
 follows_set texts nodes number new = (extends_itself texts, omega (arith, length-set nodes number new))
+
+-- it has as few nodes as before
+pub few_set : (nodes : List PlainNode) (number : ℕ) (new : PlainNode) → length nodes ≤ 2 ^ 32 → length (set nodes number new) ≤ 2 ^ 32
+few_set nodes number new few = omega (arith, length-set nodes number new)

@@ -1,17 +1,15 @@
 -- What a store's calls ask for and answer.
-use Rattle.std.specs.Prelude.{◌≡◌, ℕ, ◌&&◌, Bool, true, false, not, nat_le, nat_lt, List, [], length, map, slice_get, Option, None, Some, is_some, unwrap_or, IfSome, Result, Ok, Err}
-use Rattle.std.specs.Option.{option_map}
+use Rattle.std.specs.Prelude.{◌≡◌, ℕ, ◌&&◌, Bool, true, false, not, nat_le, nat_lt, List, [], length, Option, None, Some, is_some, unwrap_or, IfSome, Result, Ok, Err}
 use Rattle.snap_base.specs.declared.limits.TheConstants.{MOST_ITEMS, MOST_PRIVATE_NODES, MOST_PROPERTIES}
 use Rattle.snap_graph.specs.declared.kind.Kind.{Kind}
 use Rattle.snap_graph.specs.declared.kind.Kind.TheVariants as kind
 use Rattle.snap_graph.specs.declared.node.Node.{Node}
 use Rattle.snap_graph.specs.declared.value.Value.{Value}
 use Rattle.snap_graph.specs.declared.value.Value.TheVariants as value
-use Rattle.snap_graph.specs.OwnKeys.{own_order}
 use Rattle.snap_store.specs.declared.fault.StoreFault.{StoreFault}
 use Rattle.snap_store.specs.declared.fault.StoreFault.TheVariants.{TooManyNodes, TooLong, NoMemory}
 use Rattle.spec_values.specs.Access.{is_array}
-use Rattle.spec_values.specs.Operations.{elements_of, is_frozen, kind_of, MayHold, own_value, properties_of}
+use Rattle.spec_values.specs.Operations.{MayHold, elements_of, is_frozen, kind_of, own_value, properties_of}
 
 -- a kind of nodes that stand for a dealing with the outside
 abbrev pub IsResource : Kind → Type 0

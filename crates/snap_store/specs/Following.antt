@@ -56,3 +56,7 @@ own_after texts after nodes more held grown le own = (
   rw (value_still texts after held grown own.0)
       (more_place (length (nodes_in texts nodes)) (length (nodes_in after more)) (value_in texts held) (omega (arith, length-map nodes (node_in texts), length-map more (node_in after))) own.1),
 )
+
+-- as many nodes stand for themselves as are kept
+pub few_nodes : (texts : List (List ℕ)) (nodes : List PlainNode) (most : ℕ) → length nodes ≤ most → length (nodes_in texts nodes) ≤ most
+few_nodes texts nodes most h = omega (arith, length-map nodes (node_in texts))

@@ -1,7 +1,8 @@
 //! The texts and nodes of a plain store.
 #![tactic(auto, using(snap_arena::specs::Laws::extends_itself))]
 
-ghost use Rattle.std.specs.Prelude.{All};
+ghost use Rattle.std.specs.Coded.{le_prop};
+ghost use Rattle.std.specs.Prelude.{◌≤◌, ◌^◌, All, length};
 ghost use Rattle.snap_graph.specs.Lawful.{IsLawful};
 ghost use Rattle.snap_store.specs.Plain.{IsNodeWithin, nodes_in, nodes_within-prop};
 ghost use Rattle.snap_store.specs.Unique.{IsLawful-prop};
@@ -27,10 +28,11 @@ pub(crate) struct PlainHeap {
     private_nodes: u32,
     ghost lawful: { IsLawful (nodes_in texts nodes.items) } by { IsLawful-prop _ },
     ghost within: { All (IsNodeWithin texts) nodes.items } by { nodes_within-prop _ _ },
+    ghost few: { length nodes.items ≤ 2 ^ 32 } by { le_prop },
 }
 
 impl PlainHeap {
-    ghost use Rattle.std.specs.Prelude.{◌≡◌, ◌<◌, ◌≤◌, ◌+◌, ◌-◌, ◌++◌, ◌∷◌, [], ℕ, List, false, Option, None, Some, IfSome, IfOk, OnOk, OnErr, drop, length, slice_get, take};
+    ghost use Rattle.std.specs.Prelude.{◌≡◌, ◌<◌, ◌+◌, ◌-◌, ◌++◌, ◌∷◌, [], ℕ, List, false, Option, None, Some, IfSome, IfOk, OnOk, OnErr, drop, slice_get, take};
     ghost use Rattle.std.specs.Option.{option_map};
     ghost use Rattle.snap_arena.specs.Texts.{IsHeld, is_too_long, text_in};
     ghost use Rattle.snap_arena.specs.Views.{units};
@@ -58,7 +60,7 @@ impl PlainHeap {
         }
     }
 
-    // The texts and nodes of a graph.
+    // The texts and nodes of a graph. Past `u32::MAX` nodes the answer is want of memory.
     pub(crate) fn of(alloc: Global, graph: Graph, private_nodes: u32) -> Result<PlainHeap, NoMemory>
         requires { IsLawful graph.nodes }
         ensures nodes { IfOk result (λ heap. heap_nodes heap ≡ graph.nodes) }
@@ -68,6 +70,9 @@ impl PlainHeap {
         let Graph { nodes } = graph;
         let mut texts = Arena::new(alloc);
         let nodes = kept_nodes(alloc, &mut texts, nodes)?;
+        if nodes.len() > u32::MAX as usize {
+            return Err(NoMemory);
+        }
         Ok(PlainHeap {
             alloc,
             texts,

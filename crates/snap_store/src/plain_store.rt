@@ -93,7 +93,7 @@ impl<K: Keys> Store for PlainStore<K> {
 
     ghost use Rattle.std.proofs.Common.{◌∙◌, refl};
     ghost use Rattle.snap_arena.specs.Laws.{extends_itself, extends_still};
-    ghost use Rattle.snap_store.specs.Following.{fewer_still, not_fewer, own_after, value_still};
+    ghost use Rattle.snap_store.specs.Following.{few_nodes, fewer_still, not_fewer, own_after, value_still};
     ghost use Rattle.snap_store.specs.PlainHeaps.{Follows, HeapOwns, heap_nodes};
 
     ghost view = { λ store. record { nodes = heap_nodes store.heap; private_nodes = store.heap.private_nodes; log = K.log store.keys } };
@@ -255,6 +255,8 @@ impl<K: Keys> Store for PlainStore<K> {
     }
 
     ghost lawful = { λ store. store.heap.lawful };
+
+    ghost few = { λ store. few_nodes store.heap.texts store.heap.nodes.items 4294967296 store.heap.few };
 
     ghost places = { λ store held owned. owned.1 };
 

@@ -252,6 +252,9 @@ pub trait Store {
     /// What the store stands for is a heap.
     ghost lawful: { (store : Self) → IsLawful (view store).nodes };
 
+    /// There are 2^32 nodes at most, since the number of each has 32 bits.
+    ghost few: { (store : Self) → length (view store).nodes ≤ 4294967296 };
+
     /// What a held value stands for may stand in a place of the heap.
     ghost places: { (store : Self) (held : Self.Held) → owns store held → IsPlace (length (view store).nodes) (meaning store held) };
 

@@ -1,27 +1,26 @@
-use Rattle.std.proofs.Common.{length, refl, sym, ap, subst, ◌∙◌}
-use Rattle.snap_base.specs.declared.stop.Stop.TheVariants.{NotInProfile}
-use Rattle.snap_action.proofs.Follows.{answered, stopped, unmet}
-use Rattle.snap_object.specs.declared.search.Found.TheVariants.{Absent, Size, Special}
-use Rattle.snap_object.specs.Search.{IsOwn, shown}
-use Rattle.snap_object.proofs.Growing.{looked_up_grows}
-use Rattle.snap_object.proofs.Looking.{reads}
+use Rattle.std.proofs.Common.{Some, None, Option, refl, sym, ap, subst}
+use Rattle.snap_graph.specs.declared.value.Value.{Value}
+use Rattle.spec_values.specs.Access.{or_undefined}
+use Rattle.spec_values.specs.Answer.{give}
+use Rattle.snap_action.specs.Gives.{owned_some, view_some}
+use Rattle.snap_action.proofs.Follows.{answered, at_same, chained, cut_off}
+use Rattle.snap_action.proofs.Growing.{give_grows}
+use Rattle.snap_object.specs.Parts.{found_from}
 use Rattle.snap_object.proofs.reading.look_up.Goals as goal
 
-pub returns-in_err-find : goal.returns-in_err-find
-returns-in_err-find g c = unmet (record { view = refl; later = g.met.S.Store.at_once c.args.store.now }) (looked_up_grows c.args.base.now c.args.name.now c.args.from) c.from_residual.result c.from_residual.ensures.1
+pub returns-in_err-find_value : goal.returns-in_err-find_value
+returns-in_err-find_value g c =
+    cut_off (found_from c.args.base.now c.args.name.now c.args.from) (λ found. give (or_undefined found)) (λ found. give_grows (or_undefined found)) c.in_err-find_value.ensures c.from_residual.result c.from_residual.ensures.1
 
-pub returns-in-Special : goal.returns-in-Special
-returns-in-Special g c =
-    reads c.args.base.now c.args.name.now c.args.from Special (sym (ap (shown (g.S.Store.meaning c.args.store.now)) c.in-Special.is) ∙ c.in_ok-find.ensures.found) (stopped (record { view = refl; later = g.met.S.Store.at_once c.args.store.now }) NotInProfile)
+pub returns-in-Some : goal.returns-in-Some
+returns-in-Some g c =
+    let h = c.in_ok-find_value.ensures in
+    let last = c.find_value.new.store in
+    chained g.met.S.Store.later_still (λ a b text h. g.met.S.Store.keeps_left_out a b text h) (found_from c.args.base.now c.args.name.now c.args.from) (λ found. give (or_undefined found)) h
+    (at_same (λ found. give (or_undefined (view_some (g.S.Store.meaning last) found))) (sym c.in-Some.is)
+    (answered (record { view = refl; later = g.met.S.Store.at_once last }) (g.S.Store.meaning last c.in-Some.held) refl (subst (owned_some (g.S.Store.owns last)) c.in-Some.is h.owned)))
 
-pub returns-in-Size : goal.returns-in-Size
-returns-in-Size g c =
-    reads c.args.base.now c.args.name.now c.args.from (Size c.in-Size.prototype) (sym (ap (shown (g.S.Store.meaning c.args.store.now)) c.in-Size.is) ∙ c.in_ok-find.ensures.found) c.size_of.ensures
-
-pub returns-in-Own : goal.returns-in-Own
-returns-in-Own g c =
-    reads c.args.base.now c.args.name.now c.args.from _ (sym (ap (shown (g.S.Store.meaning c.args.store.now)) c.in-Own.is) ∙ c.in_ok-find.ensures.found) (answered (record { view = refl; later = g.met.S.Store.at_once c.args.store.now }) _ refl (subst (IsOwn (g.S.Store.owns c.args.store.now) (length (g.S.Store.view c.args.store.now).nodes)) c.in-Own.is c.in_ok-find.ensures.owned).1)
-
-pub returns-in-Absent : goal.returns-in-Absent
-returns-in-Absent g c =
-    reads c.args.base.now c.args.name.now c.args.from Absent (sym (ap (shown (g.S.Store.meaning c.args.store.now)) c.in-Absent.is) ∙ c.in_ok-find.ensures.found) c.hold_value.ensures.gives
+pub returns-in-None : goal.returns-in-None
+returns-in-None g c =
+    chained g.met.S.Store.later_still (λ a b text h. g.met.S.Store.keeps_left_out a b text h) (found_from c.args.base.now c.args.name.now c.args.from) (λ found. give (or_undefined found)) c.in_ok-find_value.ensures
+    (at_same (λ found. give (or_undefined (view_some (g.S.Store.meaning c.find_value.new.store) found))) (sym c.in-None.is) c.hold_value.ensures.gives)

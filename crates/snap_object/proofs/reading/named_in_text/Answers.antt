@@ -1,29 +1,21 @@
-use Rattle.std.proofs.Common.{ℕ, pos, length, refl, sym, ap, ◌∙◌}
+use Rattle.std.proofs.Common.{sym, ◌∙◌}
 use Rattle.snap_graph.specs.declared.intrinsic.TheConstants.{STRING_PROTOTYPE}
-use Rattle.snap_graph.specs.declared.value.Value.TheVariants.{Int, Text, Undefined}
+use Rattle.snap_graph.specs.declared.value.Value.TheVariants.{Text, Undefined}
 use Rattle.snap_store.specs.Calls.{units_in}
-use Rattle.spec_values.specs.Answer.{give}
+use Rattle.spec_values.specs.Access.{count_value}
 use Rattle.snap_action.specs.Gives.{standing}
-use Rattle.snap_action.proofs.Follows.{alike, at_same, unmet}
-use Rattle.snap_action.proofs.Growing.{give_grows}
+use Rattle.snap_action.proofs.Follows.{alike, at_same}
 use Rattle.snap_object.specs.Parts.{looked_up}
 use Rattle.snap_object.proofs.Bases.{look_up_alike}
 use Rattle.snap_object.proofs.Finding.{string_is_there, text_length, text_other}
 use Rattle.snap_object.proofs.reading.named_in_text.Goals as goal
-
-pub returns-in_err-length : goal.returns-in_err-length
-returns-in_err-length g c =
-    let store = c.args.store.now in
-    let text = units_in (g.S.Store.meaning store c.args.text.now) in
-    text_length text c.args.name.now (sym c.is_word.ensures ∙ c.if-is_word.true) (unmet (record { view = refl; later = g.met.S.Store.at_once store }) (give_grows (Int (pos (length text)))) c.from_residual.result c.from_residual.ensures.1)
 
 pub look_up-requires-clause-number : goal.look_up-requires-clause-number
 look_up-requires-clause-number g c = string_is_there (g.S.Store.view c.args.store.now).nodes (g.met.S.Store.lawful c.args.store.now)
 
 pub returns-then-is_word : goal.returns-then-is_word
 returns-then-is_word g c =
-    let text = units_in (g.S.Store.meaning c.args.store.now c.args.text.now) in
-    text_length text c.args.name.now (sym c.is_word.ensures ∙ c.if-is_word.true) (at_same give (c.count_value.ensures ∙ ap (λ (n : ℕ). Int (pos n)) c.in_ok-length.ensures) c.hold_value.ensures.gives)
+    text_length (units_in (g.S.Store.meaning c.args.store.now c.args.text.now)) c.args.name.now (sym c.is_word.ensures ∙ c.if-is_word.true) (at_same count_value c.length.ensures c.hold_count.ensures)
 
 pub returns : goal.returns
 returns g c =

@@ -3,24 +3,18 @@ use Rattle.std.proofs.lemmas.Option.{slice_get_past}
 use Rattle.snap_store.specs.Calls.{units_in}
 use Rattle.spec_values.specs.Access.{unit_or_undefined}
 use Rattle.spec_values.specs.Answer.{give}
-use Rattle.snap_action.proofs.Follows.{at_same, unmet}
-use Rattle.snap_action.proofs.Growing.{give_grows}
+use Rattle.snap_action.proofs.Follows.{at_same}
 use Rattle.snap_object.proofs.Bases.{one_unit}
 use Rattle.snap_object.proofs.reading.unit_of.Goals as goal
-
-pub returns-in_err-length : goal.returns-in_err-length
-returns-in_err-length g c =
-    let store = c.args.store.now in
-    unmet (record { view = refl; later = g.met.S.Store.at_once store }) (give_grows (unit_or_undefined (slice_get (units_in (g.S.Store.meaning store c.args.text.now)) c.args.place))) c.from_residual.result c.from_residual.ensures.1
 
 pub returns-then-place-length : goal.returns-then-place-length
 returns-then-place-length g c =
     let text = units_in (g.S.Store.meaning c.args.store.now c.args.text.now) in
-    let below : c.args.place < length text = omega (arith, c.in_ok-length.ensures, c.if-place-length.true) in
+    let below : c.args.place < length text = omega (arith, c.length.ensures, c.if-place-length.true) in
     at_same give (one_unit text c.args.place below) c.part_of_text.ensures.gives
 
 pub returns-else-place-length : goal.returns-else-place-length
 returns-else-place-length g c =
     let text = units_in (g.S.Store.meaning c.args.store.now c.args.text.now) in
-    let past : length text ≤ c.args.place = omega (arith, c.in_ok-length.ensures, c.if-place-length.false) in
+    let past : length text ≤ c.args.place = omega (arith, c.length.ensures, c.if-place-length.false) in
     at_same give (ap unit_or_undefined (sym (slice_get_past text c.args.place past))) c.hold_value.ensures.gives

@@ -8,7 +8,7 @@ use Rattle.spec_values.proofs.Elements.{with_own_lawful}
 use Rattle.snap_store.proofs.Altering.{is_same, same_lawful}
 use Rattle.snap_store.proofs.Either.{either_way, on_err}
 use Rattle.snap_store.proofs.Filling.{full_kept}
-use Rattle.snap_store.proofs.Growing.{follows_set}
+use Rattle.snap_store.proofs.Growing.{few_set, follows_set}
 use Rattle.snap_store.proofs.plain_heap.PlainHeap.create.Goals as goal
 
 pub invariant_of-self : goal.invariant_of-self
@@ -25,6 +25,7 @@ invariant_of-self c =
           (λ same. same_lawful heap.texts heap.nodes.items c.args.node old c.requires.number read c.create.new.self (same heap.texts) heap.lawful);
       within = keeps_within heap.texts heap.nodes.items c.args.node old c.requires.number read heap.texts c.create.new.self heap.within
           (λ h. c.create.ensures.within heap.texts h c.requires.owned.0);
+      few = few_set heap.nodes.items c.args.node c.create.new.self heap.few;
     }
 
 pub returns-in_err-create-clause-err : goal.returns-in_err-create-clause-err

@@ -3,7 +3,7 @@ use Rattle.snap_store.specs.PlainHeaps.{heap_nodes}
 use Rattle.snap_store.proofs.Altering.{here, is_changed, keeps_keyed, keeps_lawful, keeps_within}
 use Rattle.spec_values.specs.Operations.{frozen_node}
 use Rattle.spec_values.proofs.Elements.{with_frozen_lawful}
-use Rattle.snap_store.proofs.Growing.{follows_set}
+use Rattle.snap_store.proofs.Growing.{few_set, follows_set}
 use Rattle.snap_store.proofs.plain_heap.PlainHeap.freeze.Goals as goal
 
 pub invariant_of-self : goal.invariant_of-self
@@ -19,6 +19,7 @@ invariant_of-self c =
           (with_frozen_lawful (heap_nodes heap) c.args.node (node_in heap.texts old) heap.lawful at);
       within = keeps_within heap.texts heap.nodes.items c.args.node old c.requires read heap.texts c.freeze.new.self heap.within
           (c.freeze.ensures.within heap.texts);
+      few = few_set heap.nodes.items c.args.node c.freeze.new.self heap.few;
     }
 
 pub returns-clause-nodes : goal.returns-clause-nodes

@@ -8,6 +8,7 @@ invariant_of-self c =
     record {
       lawful = lawful_stays heap.texts c.hold.new.self heap.nodes.items grown heap.within heap.lawful;
       within = within_stays heap.texts c.hold.new.self heap.nodes.items grown heap.within;
+      few = heap.few;
     }
 
 pub returns-clause-nodes : goal.returns-clause-nodes

@@ -8,6 +8,7 @@ invariant_of-self c =
     record {
       lawful = lawful_stays heap.texts c.join.new.self heap.nodes.items grown heap.within heap.lawful;
       within = within_stays heap.texts c.join.new.self heap.nodes.items grown heap.within;
+      few = heap.few;
     }
 
 pub returns-in-Ok-clause-nodes : goal.returns-in-Ok-clause-nodes

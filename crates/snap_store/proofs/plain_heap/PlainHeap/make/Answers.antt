@@ -1,4 +1,4 @@
-use Rattle.std.proofs.Common.{false, [], ◌∷◌, ◌++◌, refl, sym, subst}
+use Rattle.std.proofs.Common.{false, [], ◌∷◌, ◌++◌, length, length-append, refl, sym, ap, subst, arith}
 use Rattle.snap_graph.specs.declared.node.Node.{Node}
 use Rattle.snap_graph.specs.Lawful.{IsLawful}
 use Rattle.snap_store.specs.declared.plain_node.PlainNode.{PlainNode}
@@ -17,4 +17,5 @@ invariant_of-self-2 c =
     record {
       lawful = pushed_lawful heap.texts heap.nodes.items c.push.new.self.items made _ c.push.ensures.items heap.lawful (subst (λ (n : Node). IsLawful (heap_nodes heap ++ n ∷ [])) (sym means) lawful);
       within = pushed_within heap.texts heap.nodes.items c.push.new.self.items made _ c.push.ensures.items heap.within (made_within heap.texts made c.new.ensures.items c.new-2.ensures.items refl c.requires.owned.0);
+      few = omega (arith, ap length c.push.ensures.items, length-append heap.nodes.items (made ∷ []));
     }

@@ -11,7 +11,7 @@ use Rattle.spec_values.specs.Operations.{with_elements}
 use Rattle.spec_values.proofs.Elements.{with_fewer_lawful}
 use Rattle.spec_values.proofs.Made.{lawful_at}
 use Rattle.snap_store.proofs.Owning.{owns_read}
-use Rattle.snap_store.proofs.Growing.{follows_set}
+use Rattle.snap_store.proofs.Growing.{few_set, follows_set}
 use Rattle.snap_store.proofs.plain_heap.PlainHeap.pop_element.Goals as goal
 
 pub invariant_of-self : goal.invariant_of-self
@@ -27,6 +27,7 @@ invariant_of-self c =
           (with_fewer_lawful (heap_nodes heap) c.args.node (node_in heap.texts old) heap.lawful at (of_kind heap.texts heap.nodes.items c.args.node old c.requires.number read kind.Array c.requires.kind) (loose_here heap.texts heap.nodes.items c.args.node old c.requires.number read c.requires.frozen));
       within = keeps_within heap.texts heap.nodes.items c.args.node old c.requires.number read heap.texts c.pop_element.new.self heap.within
           (c.pop_element.ensures.within heap.texts);
+      few = few_set heap.nodes.items c.args.node c.pop_element.new.self heap.few;
     }
 
 pub returns-clause-nodes : goal.returns-clause-nodes

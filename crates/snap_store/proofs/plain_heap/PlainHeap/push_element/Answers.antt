@@ -6,7 +6,7 @@ use Rattle.spec_values.specs.Operations.{with_elements}
 use Rattle.spec_values.proofs.Elements.{with_more_lawful}
 use Rattle.snap_store.proofs.Altering.{is_same, same_lawful}
 use Rattle.snap_store.proofs.Either.{either_way, on_err}
-use Rattle.snap_store.proofs.Growing.{follows_set}
+use Rattle.snap_store.proofs.Growing.{few_set, follows_set}
 use Rattle.snap_store.proofs.plain_heap.PlainHeap.push_element.Goals as goal
 
 pub invariant_of-self : goal.invariant_of-self
@@ -23,6 +23,7 @@ invariant_of-self c =
           (λ same. same_lawful heap.texts heap.nodes.items c.args.node old c.requires.number read c.push_element.new.self (same heap.texts) heap.lawful);
       within = keeps_within heap.texts heap.nodes.items c.args.node old c.requires.number read heap.texts c.push_element.new.self heap.within
           (λ h. c.push_element.ensures.within heap.texts h c.requires.owned.0);
+      few = few_set heap.nodes.items c.args.node c.push_element.new.self heap.few;
     }
 
 pub returns-in_err-push_element-clause-err : goal.returns-in_err-push_element-clause-err

@@ -6,7 +6,7 @@ use Rattle.snap_store.proofs.Owning.{keys_apart}
 use Rattle.spec_values.specs.Operations.{remove_under, with_properties}
 use Rattle.spec_values.proofs.Elements.{without_own_lawful}
 use Rattle.spec_values.proofs.Made.{lawful_at}
-use Rattle.snap_store.proofs.Growing.{follows_set}
+use Rattle.snap_store.proofs.Growing.{few_set, follows_set}
 use Rattle.snap_store.proofs.plain_heap.PlainHeap.remove.Goals as goal
 
 pub invariant_of-self : goal.invariant_of-self
@@ -22,6 +22,7 @@ invariant_of-self c =
           (without_own_lawful (heap_nodes heap) c.args.node (node_in heap.texts old) heap.lawful at c.requires.place.0 (loose_here heap.texts heap.nodes.items c.args.node old c.requires.number read c.requires.frozen));
       within = keeps_within heap.texts heap.nodes.items c.args.node old c.requires.number read heap.texts c.remove.new.self heap.within
           (c.remove.ensures.within heap.texts);
+      few = few_set heap.nodes.items c.args.node c.remove.new.self heap.few;
     }
 
 pub returns-clause-nodes : goal.returns-clause-nodes

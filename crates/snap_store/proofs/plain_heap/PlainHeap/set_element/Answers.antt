@@ -4,7 +4,7 @@ use Rattle.snap_store.specs.PlainHeaps.{heap_nodes}
 use Rattle.snap_store.proofs.Altering.{here, is_changed, keeps_keyed, keeps_lawful, keeps_within, may_hold}
 use Rattle.spec_values.specs.Operations.{with_elements}
 use Rattle.spec_values.proofs.Elements.{with_element_lawful}
-use Rattle.snap_store.proofs.Growing.{follows_set}
+use Rattle.snap_store.proofs.Growing.{few_set, follows_set}
 use Rattle.snap_store.proofs.plain_heap.PlainHeap.set_element.Goals as goal
 
 pub invariant_of-self : goal.invariant_of-self
@@ -20,6 +20,7 @@ invariant_of-self c =
           (with_element_lawful (heap_nodes heap) c.args.node (node_in heap.texts old) heap.lawful at c.args.i (value_in heap.texts c.args.held) (may_hold heap.texts heap.nodes.items c.args.node old c.requires.number read (value_in heap.texts c.args.held) c.requires.value));
       within = keeps_within heap.texts heap.nodes.items c.args.node old c.requires.number read heap.texts c.set_element.new.self heap.within
           (λ h. c.set_element.ensures.within heap.texts h c.requires.owned.0);
+      few = few_set heap.nodes.items c.args.node c.set_element.new.self heap.few;
     }
 
 pub returns-clause-nodes : goal.returns-clause-nodes

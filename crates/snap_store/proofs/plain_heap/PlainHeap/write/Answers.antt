@@ -4,7 +4,7 @@ use Rattle.snap_store.specs.PlainHeaps.{heap_nodes}
 use Rattle.snap_store.proofs.Altering.{here, is_changed, keeps_keyed, keeps_lawful, keeps_within, kind_here, loose_here, place_here}
 use Rattle.spec_values.specs.Operations.{put_under, with_properties}
 use Rattle.spec_values.proofs.Elements.{with_own_lawful}
-use Rattle.snap_store.proofs.Growing.{follows_set}
+use Rattle.snap_store.proofs.Growing.{few_set, follows_set}
 use Rattle.snap_store.proofs.plain_heap.PlainHeap.write.Goals as goal
 
 pub invariant_of-self : goal.invariant_of-self
@@ -20,6 +20,7 @@ invariant_of-self c =
           (with_own_lawful (heap_nodes heap) c.args.node (node_in heap.texts old) heap.lawful at c.requires.place.0 (value_in heap.texts c.args.held) (loose_here heap.texts heap.nodes.items c.args.node old c.requires.number read c.requires.frozen) c.requires.value (λ e. c.requires.place.2 (kind_here heap.texts heap.nodes.items c.args.node old c.requires.number read ∙ ap Some e)));
       within = keeps_within heap.texts heap.nodes.items c.args.node old c.requires.number read heap.texts c.write.new.self heap.within
           (λ h. c.write.ensures.within heap.texts h c.requires.owned.0);
+      few = few_set heap.nodes.items c.args.node c.write.new.self heap.few;
     }
 
 pub returns-clause-nodes : goal.returns-clause-nodes
