@@ -1,0 +1,9 @@
+pub mod Asking
+pub mod Beginning
+pub mod Ending
+pub mod Keeping
+pub mod Leaving
+pub mod Made
+pub mod Reading
+pub mod Sound
+pub mod Writing
