@@ -1,0 +1,9 @@
+pub mod Binding
+pub mod Changing
+pub mod Looking
+pub mod Making
+pub mod Naming
+pub mod Pairing
+pub mod Reading
+pub mod Worlds
+pub mod Writing
