@@ -12,14 +12,15 @@ use Rattle.snap_graph.specs.declared.value.Value.TheVariants.{Undefined, Null, B
 use Rattle.snap_graph.specs.Lawful.{chain_within}
 use Rattle.snap_graph.specs.Matching.{ArePaired}
 use Rattle.snap_graph.specs.Values.{node_of}
-use Rattle.spec_values.specs.Access.{chain_end, index_of, is_size, named_key, no_properties, not_writable, or_stop, reached_from, throw_error, type_error}
+use Rattle.spec_values.specs.Access.{chain_end, entry_count, index_of, is_size, named_key, no_properties, not_writable, or_stop, reached_from, throw_error, type_error}
 use Rattle.spec_values.specs.Answer.{◌>>=◌, Action, Heap, give, stop, use_key}
 use Rattle.spec_values.specs.Conversions.{text_of}
+use Rattle.spec_values.specs.Operations.{elements_of, kind_of}
 use Rattle.laws_alike.specs.Alike.{Alike, Common, Lists, Maybe, Numbers, Same, Values, World}
 use Rattle.laws_alike.specs.Going.{GoAlike}
 use Rattle.laws_alike.proofs.Binding.{bind_alike, choice_alike, give_alike, knowing, same_alike, stop_alike, throw_alike}
 use Rattle.laws_alike.proofs.Changing.{put_alike}
-use Rattle.laws_alike.proofs.Looking.{SeeAlike}
+use Rattle.laws_alike.proofs.Looking.{SeeAlike, entries_alike}
 use Rattle.laws_alike.proofs.Making.{make_alike, use_alike}
 use Rattle.laws_alike.proofs.Pairing.{numbers_same, read_pair}
 use Rattle.laws_alike.proofs.Worlds.{agree_cases}
@@ -76,12 +77,17 @@ reached_alike {world} a b p = record {
 }
 
 -- an intrinsic is paired with itself alone
-pub own_number : {world : World} {one other : Heap} → Alike world one other → {a b : ℕ} → ArePaired world.pairs a b → (n : ℕ) → n < 62 → (a == n) ≡ (b == n)
+own_number : {world : World} {one other : Heap} → Alike world one other → {a b : ℕ} → ArePaired world.pairs a b → (n : ℕ) → n < 62 → (a == n) ≡ (b == n)
 own_number alike {a} {b} p n below = numbers_same alike a b n n p (alike.intrinsics n below)
 
 pub size_name : {world : World} {one other : Heap} → Alike world one other → {a b : ℕ} → ArePaired world.pairs a b → (name : List ℕ) → is_size a name ≡ is_size b name
 size_name alike {a} {b} p name =
     ap (λ c. (c || a == SET_PROTOTYPE) && text_eq name (codes "size")) (own_number alike p MAP_PROTOTYPE (omega arith)) ∙ ap (λ c. (b == MAP_PROTOTYPE || c) && text_eq name (codes "size")) (own_number alike p SET_PROTOTYPE (omega arith))
+
+pub entries_seen : {world : World} (m n : ℕ) → ArePaired world.pairs m n → (a b : ℕ) → ArePaired world.pairs a b
+    → SeeAlike Same world (λ nodes. entry_count m (kind_of nodes a) (elements_of nodes a)) (λ nodes. entry_count n (kind_of nodes b) (elements_of nodes b))
+entries_seen m n p a b q =
+    record { sees = λ one other alike. (entries_alike m n (own_number alike p MAP_PROTOTYPE (omega arith)) (own_number alike p SET_PROTOTYPE (omega arith)) a b q).sees one other alike }
 
 -- a name
 pub text_same : (world : World) (u v : Value) → Values world u v → text_of u ≡ text_of v

@@ -2,7 +2,7 @@
 use Rattle.std.proofs.Common.{◌≡◌, ℕ, ◌^◌, ℤ, pos, Bool, true, false, nat_lt, List, [], ◌∷◌, codes, length, slice_get, Option, None, Some, Ok, Err, refl, subst, arith, if◌then◌else◌, unsigned_abs}
 use Rattle.std.specs.Str.{bytes_eq as text_eq}
 use Rattle.snap_base.specs.declared.stop.Stop.TheVariants.{NotInProfile, NotSafeInteger}
-use Rattle.snap_graph.specs.declared.intrinsic.TheConstants.{MAP_PROTOTYPE, SET_PROTOTYPE, STRING_PROTOTYPE}
+use Rattle.snap_graph.specs.declared.intrinsic.TheConstants.{STRING_PROTOTYPE}
 use Rattle.snap_graph.specs.declared.value.Value.{Value}
 use Rattle.snap_graph.specs.declared.value.Value.TheVariants.{Undefined, Null, Bool as Truth, Int, Text, Node as At, Empty}
 use Rattle.snap_graph.specs.Matching.{ArePaired}
@@ -12,8 +12,8 @@ use Rattle.spec_values.specs.Answer.{Action}
 use Rattle.laws_alike.specs.Alike.{Alike, Lists, Maybe, Numbers, Values, World}
 use Rattle.laws_alike.specs.Going.{GoAlike}
 use Rattle.laws_alike.proofs.Binding.{bind_alike, choice_alike, give_alike, knowing, same_alike, stop_alike, tests_alike}
-use Rattle.laws_alike.proofs.Looking.{count_alike, element_alike, entries_alike, kind_alike, look_then, own_alike, same_then}
-use Rattle.laws_alike.proofs.Naming.{index_same, named_alike, nothing_alike, own_number, reached_alike, size_name, type_error_alike}
+use Rattle.laws_alike.proofs.Looking.{count_alike, element_alike, kind_alike, look_then, own_alike, same_then}
+use Rattle.laws_alike.proofs.Naming.{entries_seen, index_same, named_alike, nothing_alike, reached_alike, size_name, type_error_alike}
 use Rattle.laws_alike.proofs.Worlds.{agree_cases}
 
 -- numbers as values
@@ -41,8 +41,7 @@ plain_size m n Empty e = size_alike None
 sizes_alike : {world : World} (m n : ℕ) → ArePaired world.pairs m n → (u v : Value) → Values world u v → GoAlike Alike Values world (size_of m u) (size_of n v)
 sizes_alike {world} m n p u v h =
     agree_cases world.pairs (λ u v. GoAlike Alike Values world (size_of m u) (size_of n v)) (plain_size m n)
-    (λ a b q. knowing (λ one other alike.
-    same_then (entries_alike m n (own_number alike p MAP_PROTOTYPE (omega arith)) (own_number alike p SET_PROTOTYPE (omega arith)) a b q) size_alike))
+    (λ a b q. same_then (entries_seen m n p a b q) size_alike)
     u v h
 
 -- looking up
