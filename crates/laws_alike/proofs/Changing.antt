@@ -19,7 +19,7 @@ use Rattle.laws_alike.specs.Going.{Answers, GoAlike}
 use Rattle.laws_alike.proofs.Binding.{give_alike, same_alike, stop_alike}
 use Rattle.laws_alike.proofs.Looking.{count_alike, element_alike, held_alike, look_then, own_alike, same_then}
 use Rattle.laws_alike.proofs.Pairing.{all_pairs, back, forth, read_pair}
-use Rattle.laws_alike.proofs.Worlds.{grows_self, value_later, zip_more}
+use Rattle.laws_alike.proofs.Worlds.{grows_self, lists_stay, maybe_stays, values_stay}
 
 -- one change on both sides, of paired nodes
 changed_alike : (world : World) (change turn : Node → Node) → ((x y : Node) → NodesAgree world.pairs x y → NodesAgree world.pairs (change x) (turn y))
@@ -27,7 +27,7 @@ changed_alike : (world : World) (change turn : Node → Node) → ((x y : Node) 
     → Alike world (with_nodes one (changed change one.nodes a)) (with_nodes other (changed turn other.nodes b))
 changed_alike world change turn agrees a b p one other alike = record {
   count = length-changed change one.nodes a ∙ alike.count;
-  others = length-changed turn other.nodes b ∙ alike.others;
+  other_count = length-changed turn other.nodes b ∙ alike.other_count;
   private_nodes = alike.private_nodes;
   keys = alike.keys;
   firsts = alike.firsts;
@@ -132,7 +132,7 @@ add_elements_alike [] [] h a b p = give_alike tt tt refl
 add_elements_alike [] (v ∷ vs) h a b p = absurd h
 add_elements_alike (u ∷ us) [] h a b p = absurd h
 add_elements_alike {world} (u ∷ us) (v ∷ vs) h a b p =
-    same_alike (add_element_alike u v h.0 a b p) (λ after g done. add_elements_alike us vs (zip_more (Values world) (Values after) (value_later g) us vs h.1) a b (g.kept a b p))
+    same_alike (add_element_alike u v h.0 a b p) (λ after g done. add_elements_alike us vs ((lists_stay Values values_stay).later world after g us vs h.1) a b (g.kept a b p))
 
 pub freeze_alike : {world : World} (a b : ℕ) → ArePaired world.pairs a b → GoAlike Alike Same world (freeze a) (freeze b)
 freeze_alike {world} a b p =
@@ -154,12 +154,6 @@ remove_alike {world} key a b p =
     same_alike (change_alike world (with_properties (remove_under key)) (with_properties (remove_under key)) (properties_alike world (remove_under key) (remove_under key) (remove_under_alike world key)) a b p) (λ after g done.
     give_alike (is_some found) (is_some other) (some_alike Values world found other q)))
 
-maybe_later : (world after : World) → ((u v : Value) → Values world u v → Values after u v) → (x y : Option Value) → Maybe Values world x y → Maybe Values after x y
-maybe_later world after f None None h = tt
-maybe_later world after f None (Some v) h = absurd h
-maybe_later world after f (Some u) None h = absurd h
-maybe_later world after f (Some u) (Some v) h = f u v h
-
 pub pop_alike : {world : World} (a b : ℕ) → ArePaired world.pairs a b → GoAlike Alike (Maybe Values) world (pop_element a) (pop_element b)
 pop_alike {world} a b p =
     let fewer = λ (xs : List Value). take (length xs - 1) xs in
@@ -167,7 +161,7 @@ pop_alike {world} a b p =
     look_then (element_alike (count - 1) a b p) (λ last other q.
     same_alike (change_alike world (with_elements fewer) (with_elements fewer) (elements_alike world fewer fewer (λ xs ys h.
     subst (λ n. AllZip (Values world) (take (length xs - 1) xs) (take (n - 1) ys)) (length_all_zip (Values world) xs ys h) (zip_take (Values world) (length xs - 1) xs ys h))) a b p) (λ after g done.
-    give_alike last other (maybe_later world after (value_later g) last other q))))
+    give_alike last other ((maybe_stays Values values_stay).later world after g last other q))))
 
 -- an answer that is chosen by tests that are the same
 pub answer_alike : {A : Type 0} (R : Common A) (world : World) (b c : Bool) (x y u v : HeapAnswer A) → b ≡ c → Answers Alike R world x u → Answers Alike R world y v → Answers Alike R world (if b then x else y) (if c then u else v)

@@ -17,10 +17,10 @@ use Rattle.laws_alike.proofs.Pairing.{pair_of}
 use Rattle.laws_alike.proofs.Worlds.{two_nodes}
 
 pub alike_from : (one other : Heap) (roots other_roots : List Value) (pairs : List Pair) → Matches one.nodes roots other.nodes other_roots pairs → one.private_nodes ≡ other.private_nodes → one.keys ≡ other.keys
-    → Alike (record { pairs = pairs; count = length one.nodes; others = length other.nodes }) one other
+    → Alike (record { pairs = pairs; count = length one.nodes; other_count = length other.nodes }) one other
 alike_from one other roots other_roots pairs h private_nodes keys = record {
   count = refl;
-  others = refl;
+  other_count = refl;
   private_nodes = private_nodes;
   keys = keys;
   firsts = h.firsts;

@@ -24,7 +24,7 @@ use Rattle.laws_alike.specs.Going.{GoAlike, Later}
 use Rattle.laws_alike.proofs.Binding.{bind_alike, give_alike, knowing, same_alike, stop_alike}
 use Rattle.laws_alike.proofs.Changing.{add_element_alike, add_elements_alike, answer_alike}
 use Rattle.laws_alike.proofs.Pairing.{all_pairs, pair_of, read_pair}
-use Rattle.laws_alike.proofs.Worlds.{agree_more, grows_self, value_later, zip_more}
+use Rattle.laws_alike.proofs.Worlds.{agree_more, grows_self, lists_stay, value_later, values_stay, zip_more}
 
 node_more : (pairs more : List Pair) → ((a b : ℕ) → ArePaired pairs a b → ArePaired more a b) → (x y : Node) → NodesAgree pairs x y → NodesAgree more x y
 node_more pairs more kept x y h = record {
@@ -50,7 +50,7 @@ module _ (world : World) (own : Kind) (u v : Value) (e : Values world u v) (one 
   more = world.pairs ++ pair_of m n ∷ []
 
   wider : World
-  wider = record { pairs = more; count = world.count + 1; others = world.others + 1 }
+  wider = record { pairs = more; count = world.count + 1; other_count = world.other_count + 1 }
 
   kept : (a b : ℕ) → ArePaired world.pairs a b → ArePaired more a b
   unfolding more
@@ -72,9 +72,9 @@ module _ (world : World) (own : Kind) (u v : Value) (e : Values world u v) (one 
   unfolding wider m n
   grown = record {
     count = omega arith;
-    others = omega arith;
+    other_count = omega arith;
     kept = kept;
-    made = λ a b p. ⊎_elim (λ q. inl q) (λ (q : (m ≡ a) × (n ≡ b)). inr (omega (arith, q.0, alike.count), omega (arith, q.1, alike.others))) (split a b p);
+    made = λ a b p. ⊎_elim (λ q. inl q) (λ (q : (m ≡ a) × (n ≡ b)). inr (omega (arith, q.0, alike.count), omega (arith, q.1, alike.other_count))) (split a b p);
   }
 
   read_new : IsPairOf (one.nodes ++ new_node own u ∷ []) (other.nodes ++ new_node own v ∷ []) more (pair_of m n)
@@ -91,7 +91,7 @@ module _ (world : World) (own : Kind) (u v : Value) (e : Values world u v) (one 
   unfolding wider more m n more_of
   still = record {
     count = omega (arith, length-append one.nodes (new_node own u ∷ []), alike.count);
-    others = omega (arith, length-append other.nodes (new_node own v ∷ []), alike.others);
+    other_count = omega (arith, length-append other.nodes (new_node own v ∷ []), alike.other_count);
     private_nodes = ap (λ k. k + 1) alike.private_nodes;
     keys = alike.keys;
     firsts = all_pairs_push (λ p q. p.first ≢ q.first) world.pairs (pair_of m n) alike.firsts (λ k d below e. let pair = get_or world.pairs k d in absurd (omega (arith, (within pair.first pair.second (Contains-get_or world.pairs k d below)).0, e)));
@@ -136,7 +136,7 @@ make_function_alike script tree u v e =
 pub make_scope_alike : {world : World} (scope : ScopeKind) (u v : Value) → Values world u v → (us vs : List Value) → Lists Values world us vs → GoAlike Alike Numbers world (make_scope scope u us) (make_scope scope v vs)
 make_scope_alike {world} scope u v e us vs q =
     bind_alike (make_alike (kind.Scope scope) u v e) (λ after g a b p.
-    same_alike (add_elements_alike us vs (zip_more (Values world) (Values after) (value_later g) us vs q) a b p) (λ last h done.
+    same_alike (add_elements_alike us vs ((lists_stay Values values_stay).later world after g us vs q) a b p) (λ last h done.
     give_alike a b (h.kept a b p)))
 
 -- a key is used
@@ -147,7 +147,7 @@ use_alike {world} key = record {
     grows = grows_self world;
     matching = record {
       count = alike.count;
-      others = alike.others;
+      other_count = alike.other_count;
       private_nodes = alike.private_nodes;
       keys = ap (λ (ks : List (List ℕ)). ks ++ key ∷ []) alike.keys;
       firsts = alike.firsts;

@@ -10,21 +10,21 @@ use Rattle.spec_values.specs.Answer.{Heap}
 pub record World : Type 0 where
   pub pairs : List Pair
   pub count : ℕ
-  pub others : ℕ
+  pub other_count : ℕ
 
 -- a later world: no pair is lost, and a new one is of nodes that were made on both sides
 pub record Grows (before after : World) : Type 0 where
   pub count : before.count ≤ after.count
-  pub others : before.others ≤ after.others
+  pub other_count : before.other_count ≤ after.other_count
   pub kept : (first second : ℕ) → ArePaired before.pairs first second → ArePaired after.pairs first second
   pub made : (first second : ℕ) → ArePaired after.pairs first second
-      → ArePaired before.pairs first second ⊎ ((before.count ≤ first) × (before.others ≤ second))
+      → ArePaired before.pairs first second ⊎ ((before.count ≤ first) × (before.other_count ≤ second))
 
 -- Heaps match: as many nodes are private, the same keys were used, no node stands in two pairs, the intrinsics stand for
 -- themselves, and paired nodes agree.
 pub record Alike (world : World) (one other : Heap) : Type 0 where
   pub count : length one.nodes ≡ world.count
-  pub others : length other.nodes ≡ world.others
+  pub other_count : length other.nodes ≡ world.other_count
   pub private_nodes : one.private_nodes ≡ other.private_nodes
   pub keys : one.keys ≡ other.keys
   pub firsts : AllPairs (λ pair more. pair.first ≢ more.first) world.pairs

@@ -8,10 +8,7 @@ ghost use Rattle.spec_values.specs.State.{lift};
 ghost use Rattle.laws_alike.specs.Alike.{Alike, Grows, Values, World};
 ghost use Rattle.laws_alike.specs.Going.{GoAlike, StatesAlike, Stays};
 
-/// What two of a type have in common in a world: what matching means of states, or agreeing of results.
-pub trait Related {
-    ghost common: { World → Self → Self → Type 0 };
-}
+use crate::world::Related;
 
 /// One action and then another go alike, where the first ones do and, in every later world and on results that
 /// have in common what they must, the second ones do. A result, a throw and a stop go alike at once.
