@@ -1,8 +1,8 @@
 -- Actions on heaps as actions on states of evaluation.
-use Rattle.std.proofs.Common.{◌≡◌, ℕ, ap}
+use Rattle.std.proofs.Common.{ℕ, ap}
 use Rattle.snap_base.specs.declared.stop.Stop.{Stop}
 use Rattle.spec_values.specs.Answer.{Action, Gave, HeapAnswer, Stopped, Threw}
-use Rattle.spec_values.specs.State.{State, StopAt, lift, placed}
+use Rattle.spec_values.specs.State.{StopAt, lift, placed}
 use Rattle.laws_alike.specs.Alike.{Alike, Common, World}
 use Rattle.laws_alike.specs.Going.{Answers, GoAlike, StatesAlike, Stays}
 

@@ -16,7 +16,7 @@ use Rattle.snap_graph.specs.OwnKeys.{own_order}
 use Rattle.snap_graph.proofs.Following.{orders_agree}
 use Rattle.spec_values.specs.Access.{entry_count, is_there}
 use Rattle.spec_values.specs.Answer.{◌>>=◌, Action, Heap}
-use Rattle.spec_values.specs.Operations.{elements_of, held_under, is_frozen, kind_of, own_keys_of, own_value, properties_of, prototype_of, see}
+use Rattle.spec_values.specs.Operations.{elements_of, held_under, is_frozen, kind_of, own_keys_of, own_value, prototype_of, see}
 use Rattle.laws_alike.specs.Alike.{Alike, Common, Maybe, Same, Values, World}
 use Rattle.laws_alike.specs.Going.{Answers, GoAlike}
 use Rattle.laws_alike.proofs.Pairing.{read_pair}

@@ -1,5 +1,5 @@
 -- Operators on values that agree.
-use Rattle.std.proofs.Common.{◌≡◌, ℕ, ◌==◌, ℤ, neg_ℤ, not, List, None, Result, Ok, Err, refl, ap, subst, ◌∙◌, arith}
+use Rattle.std.proofs.Common.{◌≡◌, ℕ, ℤ, neg_ℤ, not, None, Result, Ok, Err, refl, ap, subst, ◌∙◌, arith}
 use Rattle.snap_base.specs.declared.stop.Stop.{Stop}
 use Rattle.snap_graph.specs.declared.value.Value.{Value}
 use Rattle.snap_graph.specs.declared.value.Value.TheVariants.{Undefined, Null, Bool as Truth, Int, Text, Node as At, Empty}

@@ -1,5 +1,5 @@
 -- What is asked of values of heaps that match, and what a global object has.
-use Rattle.std.proofs.Common.{◌≡◌, ℕ, ◌||◌, nat_lt, true, false, List, codes, length, Option, None, Some, is_some, refl, ap, subst, ◌∙◌, arith, if◌then◌else◌}
+use Rattle.std.proofs.Common.{◌≡◌, ℕ, ◌||◌, nat_lt, false, List, codes, length, Option, None, Some, is_some, refl, ap, subst, ◌∙◌, arith, if◌then◌else◌}
 use Rattle.std.specs.Str.{bytes_eq as text_eq}
 use Rattle.snap_base.specs.declared.stop.Stop.TheVariants.{NotInProfile}
 use Rattle.snap_graph.specs.declared.intrinsic.TheConstants.{REFERENCE_ERROR_PROTOTYPE}
