@@ -1,0 +1,13 @@
+pub mod Binding
+pub mod Changing
+pub mod Graphs
+pub mod Lifting
+pub mod Looking
+pub mod Making
+pub mod Naming
+pub mod Operating
+pub mod Pairing
+pub mod Questions
+pub mod Reading
+pub mod Worlds
+pub mod Writing
