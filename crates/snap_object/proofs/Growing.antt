@@ -1,7 +1,6 @@
 -- Property access goes on from the heap in which it begins.
-use Rattle.std.proofs.Common.{ℕ, ◌==◌, Bool, true, nat_lt, pos, List, [], ◌∷◌, codes, length, slice_get, slice_set, Option, None, Some, is_some, Result, Ok, Err, if◌then◌else◌}
+use Rattle.std.proofs.Common.{ℕ, ◌==◌, Bool, true, nat_lt, pos, List, [], ◌∷◌, codes, length, slice_get, slice_set, Option, None, Some, is_some, if◌then◌else◌}
 use Rattle.std.specs.Str.{bytes_eq as text_eq}
-use Rattle.snap_base.specs.declared.stop.Stop.{Stop}
 use Rattle.snap_base.specs.declared.stop.Stop.TheVariants.{NotInProfile}
 use Rattle.snap_graph.specs.declared.intrinsic.TheConstants.{REFERENCE_ERROR_PROTOTYPE, STRING_PROTOTYPE, TYPE_ERROR_PROTOTYPE}
 use Rattle.snap_graph.specs.declared.value.Value.{Value}

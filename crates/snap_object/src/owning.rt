@@ -170,11 +170,7 @@ fn node_has_own<S: Store>(
 }
 
 // A name that is no element's is used, and a node is asked for it.
-fn has_used<S: Store>(
-    store: &mut S,
-    node: u32,
-    name: &mut Name,
-) -> Result<bool, Abrupt<S::Held>>
+fn has_used<S: Store>(store: &mut S, node: u32, name: &mut Name) -> Result<bool, Abrupt<S::Held>>
     requires number { node < length (S.view store.old).nodes }
     requires known { IsKnown (S.key_of store.old) name.old }
     ensures gives { Gives S.Store store.old store.new as_is result (has_own_of_node node (Text name.old.text) None) }

@@ -33,10 +33,7 @@ pub(crate) fn size_of<S: Store>(
 }
 
 /// A number of units, elements or records as a value. One past the safe integers is none in this profile.
-pub(crate) fn hold_count<S: Store>(
-    store: &mut S,
-    count: usize,
-) -> Result<S::Held, Abrupt<S::Held>>
+pub(crate) fn hold_count<S: Store>(store: &mut S, count: usize) -> Result<S::Held, Abrupt<S::Held>>
     ensures gives { Gives S.Store store.old store.new (as_held S.Store store.new) result (count_value count) }
     ensures view { S.view store.new ≡ S.view store.old }
 {

@@ -1,4 +1,4 @@
-use Rattle.std.proofs.Common.{is_some, refl, sym, ◌∙◌}
+use Rattle.std.proofs.Common.{is_some, refl, ◌∙◌}
 use Rattle.snap_graph.specs.declared.value.Value.TheVariants.{Node as At}
 use Rattle.spec_values.specs.Answer.{give}
 use Rattle.snap_action.proofs.Follows.{answered, chained, cut_off}

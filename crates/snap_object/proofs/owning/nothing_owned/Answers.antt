@@ -1,4 +1,4 @@
-use Rattle.std.proofs.Common.{codes, refl}
+use Rattle.std.proofs.Common.{codes}
 use Rattle.snap_graph.specs.declared.intrinsic.TheConstants.{TYPE_ERROR_PROTOTYPE}
 use Rattle.snap_graph.specs.declared.value.Value.TheVariants.{Text}
 use Rattle.spec_values.specs.Access.{named_key, no_properties}

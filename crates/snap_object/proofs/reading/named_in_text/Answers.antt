@@ -15,7 +15,7 @@ look_up-requires-clause-number g c = string_is_there (g.S.Store.view c.args.stor
 
 pub returns-then-is_word : goal.returns-then-is_word
 returns-then-is_word g c =
-    text_length (units_in (g.S.Store.meaning c.args.store.now c.args.text.now)) c.args.name.now (sym c.is_word.ensures ∙ c.if-is_word.true) (at_same count_value c.length.ensures c.hold_count.ensures.gives)
+    text_length (units_in (g.S.Store.meaning c.args.store.now c.args.text.now)) c.args.name.now (sym c.is_word.ensures ∙ c.if-is_word.true) (at_same count_value c.length_of-length.ensures c.hold_count.ensures.gives)
 
 pub returns : goal.returns
 returns g c =
