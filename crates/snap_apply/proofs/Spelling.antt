@@ -7,7 +7,7 @@ use Rattle.snap_graph.specs.declared.value.Value.TheVariants.{Text}
 use Rattle.snap_store.specs.Calls.{text_units, units_in}
 use Rattle.spec_values.specs.Access.{or_stop}
 use Rattle.snap_store.specs.declared.store.Store.{Ghosts}
-use Rattle.spec_values.specs.Answer.{◌>>=◌, Gave, Heap, give, stop}
+use Rattle.spec_values.specs.Answer.{◌>>=◌, Gave, Heap, give}
 use Rattle.spec_values.specs.Conversions.{text_of}
 use Rattle.spec_values.specs.Operators.{added, joined, joined_values}
 use Rattle.snap_action.specs.declared.fault.Abrupt.{Abrupt}
@@ -32,19 +32,12 @@ pub adds_in_turn : (left right : Value) (heap : Heap) → is_some (text_units le
     → (or_stop (spelled left) >>= λ v. or_stop (spelled right) >>= λ w. or_stop (joined (units_in v) (units_in w))) heap ≡ or_stop (added left right) heap
 adds_in_turn left right heap e = spelled_in_turn left right (text_of left) (text_of right) heap refl refl ∙ ap (λ answer. or_stop answer heap) (added_joins left right e)
 
--- two texts
-pub adds_texts : (left right : Value) → is_some (text_units left) ≡ true → is_some (text_units right) ≡ true → joined (units_in left) (units_in right) ≡ added left right
-adds_texts left right e f = ap (λ (l : Value). joined (units_in l) (units_in right)) (sym (its_text left e)) ∙ ap (λ (r : Value). added (Text (units_in left)) r) (its_text right f) ∙ ap (λ (l : Value). added l right) (its_text left e)
-
 -- a text is its own text
 pub spells_itself : (value : Value) (heap : Heap) → is_some (text_units value) ≡ true → give value heap ≡ or_stop (spelled value) heap
 spells_itself value heap e = ap (λ (v : Value). give v heap) (sym (its_text value e)) ∙ ap (λ (v : Value). or_stop (spelled v) heap) (its_text value e)
 
 pub spells : (value : Value) (text : List ℕ) (heap : Heap) → text_of value ≡ Ok text → give (Text text) heap ≡ or_stop (spelled value) heap
 spells value text heap e = rw e refl
-
-pub spells_none : (value : Value) (why : Stop) (heap : Heap) → text_of value ≡ Err why → stop why heap ≡ or_stop (spelled value) heap
-spells_none value why heap e = rw e refl
 
 -- what was given is what is held
 pub given : {S H : Type 0} {store : Ghosts S H} {first last : S} (value : Value) (result : Result H (Abrupt H)) → Gives store first last (as_held store last) result (give value) → IfOk result (λ held. store.meaning last held ≡ value)

@@ -13,7 +13,7 @@ ghost use Rattle.spec_values.specs.Operators.{binary_value, unary_value};
 
 use crate::adding::add_texts;
 use crate::judging::judge;
-use snap_action::{Abrupt, hold_value, read_value};
+use snap_action::{Abrupt, hold_value, is_text, read_value};
 use snap_base::Stop;
 use snap_graph::Value;
 use snap_oper::{OperFault, binary, truth_of, unary, values_are_operands};
@@ -38,7 +38,7 @@ pub fn apply_binary<S: Store>(
         (or_stop (binary_value op (S.meaning store.old left.now) (S.meaning store.old right.now))) }
     ensures view { S.view store.new ≡ S.view store.old }
 {
-    if !(store.text(left).is_some() || store.text(right).is_some()) {
+    if !(is_text(store, left) || is_text(store, right)) {
         return apply_plain(alloc, store, op, left, right);
     }
     match op {
@@ -135,7 +135,7 @@ fn apply_number<S: Store>(
     ensures gives { Gives S.Store store.old store.new (as_held S.Store store.new) result (or_stop (unary_value op (S.meaning store.old held.now))) }
     ensures view { S.view store.new ≡ S.view store.old }
 {
-    if store.text(held).is_some() {
+    if is_text(store, held) {
         return Err(Abrupt::Stopped(Stop::NotInProfile));
     }
     values_are_operands();

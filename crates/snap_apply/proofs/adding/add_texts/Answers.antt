@@ -24,24 +24,24 @@ returns-in_err-right-clause-gives g c =
     let store = c.args.store.now in
     let left = g.S.Store.meaning store c.args.left.now in
     let right = g.S.Store.meaning store c.args.right.now in
-    let same = g.met.S.Store.keeps_meaning store c.spell.new.store c.args.right.now c.in_ok-left.ensures.gives.later c.requires.right in
-    let one = g.S.Store.meaning c.spell.new.store c.in_ok-left.left in
+    let same = g.met.S.Store.keeps_meaning store c.spell_held.new.store c.args.right.now c.in_ok-left.ensures.gives.later c.requires.right in
+    let one = g.S.Store.meaning c.spell_held.new.store c.in_ok-left.left in
     alike (or_stop (spelled left) >>= λ v. or_stop (spelled right) >>= λ w. or_stop (joined (units_in v) (units_in w))) (or_stop (added left right)) (λ keys. adds_in_turn left right (standing (g.S.Store.view store) keys) c.requires.text)
     (chained g.met.S.Store.later_still (λ a b text h. g.met.S.Store.keeps_left_out a b text h) (or_stop (spelled left)) (λ v. or_stop (spelled right) >>= λ w. or_stop (joined (units_in v) (units_in w))) c.in_ok-left.ensures.gives
     (at_same (λ (r : Value). or_stop (spelled r) >>= λ w. or_stop (joined (units_in one) (units_in w))) same
-    (cut_off (or_stop (spelled (g.S.Store.meaning c.spell.new.store c.args.right.now))) (λ w. or_stop (joined (units_in one) (units_in w))) (λ w. or_stop_grows (joined (units_in one) (units_in w))) c.in_err-right.ensures.gives c.from_residual-in_err-right.result c.from_residual-in_err-right.ensures.1)))
+    (cut_off (or_stop (spelled (g.S.Store.meaning c.spell_held.new.store c.args.right.now))) (λ w. or_stop (joined (units_in one) (units_in w))) (λ w. or_stop_grows (joined (units_in one) (units_in w))) c.in_err-right.ensures.gives c.from_residual-in_err-right.result c.from_residual-in_err-right.ensures.1)))
 
 pub returns-clause-gives : goal.returns-clause-gives
 returns-clause-gives g c =
     let store = c.args.store.now in
     let left = g.S.Store.meaning store c.args.left.now in
     let right = g.S.Store.meaning store c.args.right.now in
-    let same = g.met.S.Store.keeps_meaning store c.spell.new.store c.args.right.now c.in_ok-left.ensures.gives.later c.requires.right in
-    let one = g.S.Store.meaning c.spell.new.store c.in_ok-left.left in
-    let other = g.S.Store.meaning c.spell-2.new.store c.in_ok-right.right in
-    let stays = g.met.S.Store.keeps_meaning c.spell.new.store c.spell-2.new.store c.in_ok-left.left c.in_ok-right.ensures.gives.later c.in_ok-left.ensures.gives.owned in
+    let same = g.met.S.Store.keeps_meaning store c.spell_held.new.store c.args.right.now c.in_ok-left.ensures.gives.later c.requires.right in
+    let one = g.S.Store.meaning c.spell_held.new.store c.in_ok-left.left in
+    let other = g.S.Store.meaning c.spell_held-2.new.store c.in_ok-right.right in
+    let stays = g.met.S.Store.keeps_meaning c.spell_held.new.store c.spell_held-2.new.store c.in_ok-left.left c.in_ok-right.ensures.gives.later c.in_ok-left.ensures.gives.owned in
     alike (or_stop (spelled left) >>= λ v. or_stop (spelled right) >>= λ w. or_stop (joined (units_in v) (units_in w))) (or_stop (added left right)) (λ keys. adds_in_turn left right (standing (g.S.Store.view store) keys) c.requires.text)
     (chained g.met.S.Store.later_still (λ a b text h. g.met.S.Store.keeps_left_out a b text h) (or_stop (spelled left)) (λ v. or_stop (spelled right) >>= λ w. or_stop (joined (units_in v) (units_in w))) c.in_ok-left.ensures.gives
     (at_same (λ (r : Value). or_stop (spelled r) >>= λ w. or_stop (joined (units_in one) (units_in w))) same
-    (chained g.met.S.Store.later_still (λ a b text h. g.met.S.Store.keeps_left_out a b text h) (or_stop (spelled (g.S.Store.meaning c.spell.new.store c.args.right.now))) (λ w. or_stop (joined (units_in one) (units_in w))) c.in_ok-right.ensures.gives
+    (chained g.met.S.Store.later_still (λ a b text h. g.met.S.Store.keeps_left_out a b text h) (or_stop (spelled (g.S.Store.meaning c.spell_held.new.store c.args.right.now))) (λ w. or_stop (joined (units_in one) (units_in w))) c.in_ok-right.ensures.gives
     (at_same (λ (l : Value). or_stop (joined (units_in l) (units_in other))) stays c.join_texts-2.ensures.gives))))

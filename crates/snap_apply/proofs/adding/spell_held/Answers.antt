@@ -1,6 +1,5 @@
 use Rattle.std.proofs.Common.{refl, sym, ap, ◌∙◌, Err}
 use Rattle.snap_graph.specs.declared.value.Value.TheVariants.{Text}
-use Rattle.snap_store.specs.Calls.{text_units}
 use Rattle.spec_values.specs.Conversions.{text_of}
 use Rattle.snap_action.specs.declared.fault.Abrupt.TheVariants.{NoMemory}
 use Rattle.spec_values.specs.Access.{or_stop}
@@ -9,20 +8,19 @@ use Rattle.snap_action.specs.Gives.{standing}
 use Rattle.snap_action.proofs.Follows.{alike, cut_off, unmet}
 use Rattle.snap_action.proofs.Growing.{or_stop_grows}
 use Rattle.snap_apply.specs.Judged.{spelled}
-use Rattle.snap_apply.proofs.Apart.{is_seen}
 use Rattle.snap_apply.proofs.Spelling.{given, spells, spells_itself, text_given}
-use Rattle.snap_apply.proofs.adding.spell.Goals as goal
+use Rattle.snap_apply.proofs.adding.spell_held.Goals as goal
 
-pub returns-then-is_some-clause-gives : goal.returns-then-is_some-clause-gives
-returns-then-is_some-clause-gives g c =
+pub returns-then-is_text-clause-gives : goal.returns-then-is_text-clause-gives
+returns-then-is_text-clause-gives g c =
     let store = c.args.store.now in
     let value = g.S.Store.meaning store c.args.held.now in
-    alike (give value) (or_stop (spelled value)) (λ keys. spells_itself value (standing (g.S.Store.view store) keys) (is_seen c.text.result (text_units value) c.is_some.result c.text.ensures c.is_some.ensures c.if-is_some.true)) c.hold_again.ensures.gives
+    alike (give value) (or_stop (spelled value)) (λ keys. spells_itself value (standing (g.S.Store.view store) keys) (sym c.is_text.ensures ∙ c.if-is_text.true)) c.hold_again.ensures.gives
 
-pub returns-then-is_some-clause-text : goal.returns-then-is_some-clause-text
-returns-then-is_some-clause-text g c =
+pub returns-then-is_text-clause-text : goal.returns-then-is_text-clause-text
+returns-then-is_text-clause-text g c =
     let value = g.S.Store.meaning c.args.store.now c.args.held.now in
-    text_given (g.S.Store.meaning c.hold_again.new.store) value c.hold_again.result (is_seen c.text.result (text_units value) c.is_some.result c.text.ensures c.is_some.ensures c.if-is_some.true) (given value c.hold_again.result c.hold_again.ensures.gives)
+    text_given (g.S.Store.meaning c.hold_again.new.store) value c.hold_again.result (sym c.is_text.ensures ∙ c.if-is_text.true) (given value c.hold_again.result c.hold_again.ensures.gives)
 
 pub returns-in_err-value-clause-gives : goal.returns-in_err-value-clause-gives
 returns-in_err-value-clause-gives g c =
