@@ -3,7 +3,7 @@
 //
 // Usage, from the root of the repository: node bench/operators.js [--print]
 //
-// It asks each question below, and checks that the tables of crates/heap_rows/src/tests/operators/beside_node.rt are
+// It asks each question below, and checks that the tables of crates/apply_rows/src/tests/operators/beside_node.rt are
 // the answers, in this order; with --print it writes the tables. A value is written as in a script, and a
 // node as # with its number. Where the profile differs from Node.js, the answer is that of the profile, in a
 // table of its own.
@@ -12,7 +12,7 @@
 const fs = require('fs');
 const path = require('path');
 
-const FILE = path.join(__dirname, '..', 'crates', 'heap_rows', 'src', 'tests', 'operators', 'beside_node.rt');
+const FILE = path.join(__dirname, '..', 'crates', 'apply_rows', 'src', 'tests', 'operators', 'beside_node.rt');
 const NODES = { '#70': { a: 1 }, '#71': { a: 1 } };
 
 const MOST = '9007199254740991';

@@ -1,7 +1,7 @@
 #!/usr/bin/env python3
 """Measures texts that a store holds: how they grow, are read, compared and joined, beside node and mujs where they are installed.
 
-Usage, from the root of the repository, once `rt ci` or `rt test` in the crate's folder has built the tests of `heap_rows`:
+Usage, from the root of the repository, once `rt ci` or `rt test` in the crate's folder has built the tests of `apply_rows`:
 
     python3 bench/texts.py [TIMES]
 
@@ -184,7 +184,7 @@ def main():
     if len(sys.argv) not in (1, 2):
         sys.exit(__doc__)
     times = int((sys.argv[1:] + ["7"])[0])
-    program = os.path.abspath("crates/heap_rows/out/heap_rows_tests")
+    program = os.path.abspath("crates/apply_rows/out/apply_rows_tests")
     with tempfile.TemporaryDirectory() as folder:
         source, library = os.path.join(folder, "counter.c"), os.path.join(folder, "counter.so")
         with open(source, "w", encoding="ascii") as file:

@@ -1,11 +1,6 @@
-//! Heaps, operators, stores and property access.
+//! Heaps, stores and property access.
 
 mod access;
 mod nodes;
-mod objects;
-mod operators;
-mod refused;
 mod stores;
-mod texts;
 mod told_keys;
-mod values;

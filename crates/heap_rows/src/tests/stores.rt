@@ -10,8 +10,7 @@ mod logged;
 mod plain;
 mod wide;
 
-use super::objects;
-use super::refused::Refused;
+use heap_words::{Refused, new_node, takes_properties};
 use snap_graph::{Kind, Value};
 use snap_store::Store;
 use snap_text::{Key, Units};
@@ -23,7 +22,7 @@ fn made<S: Store>(store: &mut S, kind: Kind) -> Result<u32, Refused>
     ensures node { IfOk result (λ node. node < length (S.view store.new).nodes) }
     ensures grows { length (S.view store.old).nodes ≤ length (S.view store.new).nodes }
 {
-    objects::made(store, kind, &Value::Null)
+    new_node(store, kind, &Value::Null)
 }
 
 /// A number, held.
@@ -57,7 +56,7 @@ fn put<S: Store>(
     requires { node < length (S.view store.old).nodes }
     ensures { length (S.view store.new).nodes ≡ length (S.view store.old).nodes }
 {
-    if !objects::takes_properties(store, node) {
+    if !takes_properties(store, node) {
         return Ok(false);
     }
     let key = key_of(alloc, store, units)?;
@@ -287,4 +286,42 @@ fn played_anew<S: Store>(
 {
     let node = made(store, kind)?;
     played(alloc, store, node, steps)
+}
+
+/// What is tried over a plain store.
+#[derive(Clone, Copy)]
+enum Case {
+    Array,
+    Scope,
+    Resource,
+    OwnKeys,
+    Errors,
+    Properties,
+    Elements,
+    Marks,
+    ManyNodes,
+    ManyElements,
+}
+
+/// Whether what is tried comes to what it should.
+fn holds<S: Store>(alloc: Global, store: &mut S, case: Case) -> Result<bool, Refused> {
+    match case {
+        Case::Array => actions::array_holds(store),
+        Case::Scope => actions::scope_holds(store),
+        Case::Resource => actions::resource_holds(store),
+        Case::OwnKeys => actions::lists_keys(alloc, store),
+        Case::Errors => actions::errors_hold(alloc, store),
+        Case::Properties => plain::properties_hold(alloc, store),
+        Case::Elements => plain::elements_hold(alloc, store),
+        Case::Marks => plain::marks_hold(store),
+        Case::ManyNodes => plain::many_nodes_hold(store),
+        Case::ManyElements => plain::many_elements_hold(store),
+    }
+}
+
+/// Whether it does so over a plain store of the intrinsics alone. The tests themselves are about no store, since each call at a
+/// store's own type is long to prove.
+fn holds_plain(alloc: Global, case: Case) -> Result<bool, Refused> {
+    let mut store = plain::plain(alloc)?;
+    holds(alloc, &mut store, case)
 }

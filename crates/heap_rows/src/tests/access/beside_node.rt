@@ -10,9 +10,8 @@
 
 use super::samples::{PROPERTIES, make_objects};
 use super::steps::{By, Outcome, step};
-use crate::tests::refused::Refused;
 use crate::tests::told_keys::ToldKeys;
-use crate::tests::values::is_value_of;
+use heap_words::{Refused, is_value_of};
 use snap_base::Stop;
 use snap_store::{PlainStore, Store};
 use snap_text::{NoMemory, Units};
@@ -375,6 +374,18 @@ fn is_right<S: Store>(
     Ok(right)
 }
 
+// Whether it does so over new objects.
+fn is_right_anew<S: Store>(
+    alloc: Global,
+    store: &mut S,
+    steps: &str,
+    by: By,
+    answer: &str,
+) -> Result<bool, Refused> {
+    fill(alloc, store)?;
+    is_right(alloc, store, steps, by, answer)
+}
+
 // The keys after these steps over new objects, where the last one comes to the answer.
 fn keys_after(
     alloc: Global,
@@ -383,8 +394,7 @@ fn keys_after(
     answer: &str,
 ) -> Result<Option<ToldKeys>, Refused> {
     let mut store = PlainStore::new(alloc, ToldKeys::new(alloc))?;
-    fill(alloc, &mut store)?;
-    if is_right(alloc, &mut store, steps, by, answer)? {
+    if is_right_anew(alloc, &mut store, steps, by, answer)? {
         Ok(Some(store.into_keys()))
     } else {
         Ok(None)

@@ -7,9 +7,7 @@ ghost use Rattle.snap_graph.specs.declared.value.Value.TheVariants.{Node as At};
 ghost use Rattle.snap_graph.specs.Intrinsics.{IsNative};
 ghost use Rattle.snap_graph.specs.Lawful.{IsPrototype, is_scope};
 
-use crate::tests::objects::made;
-use crate::tests::refused::Refused;
-use crate::tests::values::value_of;
+use heap_words::{Refused, new_node, value_of};
 use snap_graph::{Kind, Value};
 use snap_store::Store;
 use std::alloc::Global;
@@ -72,7 +70,7 @@ fn object<S: Store>(alloc: Global, store: &mut S, last: u32, row: &str) -> Resul
     if !may_be_prototype(store, last, &prototype) {
         return Err(Refused::Row);
     }
-    made(store, kind_of(kind), &prototype)
+    new_node(store, kind_of(kind), &prototype)
 }
 
 // The kind of a word.

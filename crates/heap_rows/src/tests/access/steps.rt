@@ -1,12 +1,11 @@
 //! Single steps, and what they come to.
 
-ghost use Rattle.std.specs.Prelude.{◌<◌, length};
-ghost use Rattle.snap_action.specs.Gives.{OwnsCut, cut_of};
+ghost use Rattle.std.specs.Prelude.{◌<◌, ℕ, IfOk, length};
+ghost use Rattle.snap_action.specs.Gives.{Owns, OwnsCut, cut_of};
+ghost use Rattle.snap_action.specs.Names.{IsKnown};
 ghost use Rattle.snap_graph.specs.Values.{IsValue};
 
-use crate::tests::objects::{last_node, takes_properties};
-use crate::tests::refused::Refused;
-use crate::tests::values::value_of;
+use heap_words::{Refused, last_node, takes_properties, value_of};
 use snap_base::Stop;
 use snap_graph::Value;
 use snap_object::{
@@ -45,6 +44,56 @@ pub(crate) enum By {
     Held,
 }
 
+/// What a step does with a property.
+#[derive(Clone, Copy)]
+enum Access {
+    Get,
+    Set,
+    Delete,
+}
+
+/// What a step does.
+#[derive(Clone, Copy)]
+enum Verb {
+    Access(Access),
+    Put,
+    Freeze,
+    Keys,
+}
+
+// What a verb says, as it is written.
+fn verb_of(word: &str) -> Option<Verb> {
+    match word {
+        "get" => Some(Verb::Access(Access::Get)),
+        "set" => Some(Verb::Access(Access::Set)),
+        "delete" => Some(Verb::Access(Access::Delete)),
+        "put" => Some(Verb::Put),
+        "freeze" => Some(Verb::Freeze),
+        "keys" => Some(Verb::Keys),
+        _ => None,
+    }
+}
+
+/// What a step is about; those that its row leaves out are undefined.
+#[derive(Drop)]
+struct Operands {
+    base: Value,
+    key: Value,
+    value: Value,
+}
+
+// What the words of a step say behind its verb.
+fn operands_of(alloc: Global, last: u32, words: &[&str]) -> Result<Operands, Refused>
+    ensures base { (count : ℕ) → last < count → IfOk result (λ given. IsValue count given.base) }
+    ensures key { (count : ℕ) → last < count → IfOk result (λ given. IsValue count given.key) }
+    ensures value { (count : ℕ) → last < count → IfOk result (λ given. IsValue count given.value) }
+{
+    let base = value_of(alloc, last, word(words, 1))?;
+    let key = value_of(alloc, last, word(words, 2))?;
+    let value = value_of(alloc, last, word(words, 3))?;
+    Ok(Operands { base, key, value })
+}
+
 /// Takes one step: a verb and its words. Want of memory is none of what it may come to.
 pub(crate) fn step<S: Store>(
     alloc: Global,
@@ -52,19 +101,36 @@ pub(crate) fn step<S: Store>(
     words: &[&str],
     by: By,
 ) -> Result<Outcome, Refused> {
+    let Some(verb) = verb_of(word(words, 0)) else {
+        return Err(Refused::Row);
+    };
     let last = last_node(store)?;
-    let base = value_of(alloc, last, word(words, 1))?;
-    let key = value_of(alloc, last, word(words, 2))?;
-    let value = value_of(alloc, last, word(words, 3))?;
-    match word(words, 0) {
-        "put" => put(store, last, &base, &key, &value),
-        "freeze" => frozen(store, last, &base),
-        "keys" => keys(store, last, &base),
-        verb => match (by, text_of(alloc, &key)?) {
-            (By::Name, Some(text)) => named(alloc, store, verb, &base, text, &value),
-            (By::Held, _) => keyed(alloc, store, verb, &base, &key, &value),
-            _ => valued(alloc, store, verb, &base, &key, &value),
-        },
+    let given = operands_of(alloc, last, words)?;
+    match verb {
+        Verb::Access(access) => accessed(alloc, store, access, by, &given),
+        Verb::Put => put(store, last, &given.base, &given.key, &given.value),
+        Verb::Freeze => frozen(store, last, &given.base),
+        Verb::Keys => keys(store, last, &given.base),
+    }
+}
+
+// Takes a step that reads, writes or deletes a property.
+fn accessed<S: Store>(
+    alloc: Global,
+    store: &mut S,
+    access: Access,
+    by: By,
+    given: &Operands,
+) -> Result<Outcome, Refused>
+    requires base { IsValue (length (S.view store.old).nodes) given.now.base }
+    requires key { IsValue (length (S.view store.old).nodes) given.now.key }
+    requires value { IsValue (length (S.view store.old).nodes) given.now.value }
+{
+    let base = store.hold(&given.base)?;
+    match by {
+        By::Value => valued(alloc, store, access, &base, given),
+        By::Name => named(alloc, store, access, &base, given),
+        By::Held => keyed(alloc, store, access, &base, given),
     }
 }
 
@@ -72,19 +138,17 @@ pub(crate) fn step<S: Store>(
 fn valued<S: Store>(
     alloc: Global,
     store: &mut S,
-    verb: &str,
-    base: &Value,
-    key: &Value,
-    value: &Value,
+    access: Access,
+    base: &S::Held,
+    given: &Operands,
 ) -> Result<Outcome, Refused>
-    requires base { IsValue (length (S.view store.old).nodes) base.now }
-    requires value { IsValue (length (S.view store.old).nodes) value.now }
+    requires base { S.owns store.old base.now }
+    requires value { IsValue (length (S.view store.old).nodes) given.now.value }
 {
-    match verb {
-        "get" => read(alloc, store, base, key),
-        "set" => written(alloc, store, base, key, value),
-        "delete" => deleted(alloc, store, base, key),
-        _ => Err(Refused::Row),
+    match access {
+        Access::Get => read(alloc, store, base, &given.key),
+        Access::Set => written(alloc, store, base, &given.key, &given.value),
+        Access::Delete => deleted(alloc, store, base, &given.key),
     }
 }
 
@@ -110,23 +174,40 @@ fn text_of(alloc: Global, key: &Value) -> Result<Option<Units>, Refused> {
     Ok(Some(text))
 }
 
-// Takes a step by the name of a text.
+// Takes a step by the name of the text that a key is. A key that has none is taken as the value that it is.
 fn named<S: Store>(
     alloc: Global,
     store: &mut S,
-    verb: &str,
-    base: &Value,
+    access: Access,
+    base: &S::Held,
+    given: &Operands,
+) -> Result<Outcome, Refused>
+    requires base { S.owns store.old base.now }
+    requires value { IsValue (length (S.view store.old).nodes) given.now.value }
+{
+    match text_of(alloc, &given.key)? {
+        Some(text) => by_name(alloc, store, access, base, text, &given.value),
+        None => valued(alloc, store, access, base, given),
+    }
+}
+
+// Takes a step by the name of a text.
+fn by_name<S: Store>(
+    alloc: Global,
+    store: &mut S,
+    access: Access,
+    base: &S::Held,
     text: Units,
     value: &Value,
 ) -> Result<Outcome, Refused>
-    requires base { IsValue (length (S.view store.old).nodes) base.now }
+    requires base { S.owns store.old base.now }
     requires value { IsValue (length (S.view store.old).nodes) value.now }
 {
-    match verb {
-        "get" => read_by_name(alloc, store, base, text),
-        "set" => written_by_name(alloc, store, base, text, value),
-        "delete" => deleted_by_name(alloc, store, base, text),
-        _ => Err(Refused::Row),
+    let mut name = Name::new(text);
+    match access {
+        Access::Get => read_by_name(alloc, store, base, &mut name),
+        Access::Set => written_by_name(alloc, store, base, &mut name, value),
+        Access::Delete => deleted_by_name(alloc, store, base, &mut name),
     }
 }
 
@@ -134,75 +215,45 @@ fn named<S: Store>(
 fn read_by_name<S: Store>(
     alloc: Global,
     store: &mut S,
-    base: &Value,
-    text: Units,
+    base: &S::Held,
+    name: &mut Name,
 ) -> Result<Outcome, Refused>
-    requires { IsValue (length (S.view store.old).nodes) base.now }
+    requires base { S.owns store.old base.now }
+    requires known { IsKnown (S.key_of store.old) name.old }
 {
-    let base = store.hold(base)?;
-    let mut name = Name::new(text);
-    match get_by_name(alloc, store, &base, &mut name) {
-        Ok(held) => Ok(Outcome::Read(store.value(&held)?)),
-        Err(fault) => abrupt(store, fault),
-    }
+    let given = get_by_name(alloc, store, base, name);
+    read_outcome(store, given)
 }
 
 // Writes a property by a name.
 fn written_by_name<S: Store>(
     alloc: Global,
     store: &mut S,
-    base: &Value,
-    text: Units,
+    base: &S::Held,
+    name: &mut Name,
     value: &Value,
 ) -> Result<Outcome, Refused>
-    requires base { IsValue (length (S.view store.old).nodes) base.now }
+    requires base { S.owns store.old base.now }
+    requires known { IsKnown (S.key_of store.old) name.old }
     requires value { IsValue (length (S.view store.old).nodes) value.now }
 {
-    let base = store.hold(base)?;
     let held = store.hold(value)?;
-    let mut name = Name::new(text);
-    match set_by_name(alloc, store, &base, &mut name, &held) {
-        Ok(()) => Ok(Outcome::Wrote),
-        Err(fault) => abrupt(store, fault),
-    }
+    let given = set_by_name(alloc, store, base, name, &held);
+    write_outcome(store, given)
 }
 
 // Deletes a property by a name.
 fn deleted_by_name<S: Store>(
     alloc: Global,
     store: &mut S,
-    base: &Value,
-    text: Units,
+    base: &S::Held,
+    name: &mut Name,
 ) -> Result<Outcome, Refused>
-    requires { IsValue (length (S.view store.old).nodes) base.now }
+    requires base { S.owns store.old base.now }
+    requires known { IsKnown (S.key_of store.old) name.old }
 {
-    let base = store.hold(base)?;
-    let mut name = Name::new(text);
-    match delete_by_name(alloc, store, &base, &mut name) {
-        Ok(answer) => Ok(Outcome::Deleted(answer)),
-        Err(fault) => abrupt(store, fault),
-    }
-}
-
-// Takes a step by a key that is held.
-fn keyed<S: Store>(
-    alloc: Global,
-    store: &mut S,
-    verb: &str,
-    base: &Value,
-    key: &Value,
-    value: &Value,
-) -> Result<Outcome, Refused>
-    requires base { IsValue (length (S.view store.old).nodes) base.now }
-    requires key { IsValue (length (S.view store.old).nodes) key.now }
-    requires value { IsValue (length (S.view store.old).nodes) value.now }
-{
-    match verb {
-        "get" => read_by_key(alloc, store, base, key),
-        "set" => written_by_key(alloc, store, base, key, value),
-        "delete" => deleted_by_key(alloc, store, base, key),
-        _ => Err(Refused::Row),
-    }
+    let given = delete_by_name(alloc, store, base, name);
+    delete_outcome(store, given)
 }
 
 // A name to work in. Its own text is one that no access goes on with, so that an access by it would be seen.
@@ -210,112 +261,150 @@ fn scratch(alloc: Global) -> Result<Name, Refused> {
     Ok(Name::new(StrView::One(b"__proto__").copy(alloc)?))
 }
 
+// Takes a step by a key that is held.
+fn keyed<S: Store>(
+    alloc: Global,
+    store: &mut S,
+    access: Access,
+    base: &S::Held,
+    given: &Operands,
+) -> Result<Outcome, Refused>
+    requires base { S.owns store.old base.now }
+    requires key { IsValue (length (S.view store.old).nodes) given.now.key }
+    requires value { IsValue (length (S.view store.old).nodes) given.now.value }
+{
+    let key = store.hold(&given.key)?;
+    match access {
+        Access::Get => read_by_key(alloc, store, base, &key),
+        Access::Set => written_by_key(alloc, store, base, &key, &given.value),
+        Access::Delete => deleted_by_key(alloc, store, base, &key),
+    }
+}
+
 // Reads a property by a key that is held.
 fn read_by_key<S: Store>(
     alloc: Global,
     store: &mut S,
-    base: &Value,
-    key: &Value,
+    base: &S::Held,
+    key: &S::Held,
 ) -> Result<Outcome, Refused>
-    requires base { IsValue (length (S.view store.old).nodes) base.now }
-    requires key { IsValue (length (S.view store.old).nodes) key.now }
+    requires base { S.owns store.old base.now }
+    requires key { S.owns store.old key.now }
 {
-    let base = store.hold(base)?;
-    let key = store.hold(key)?;
     let mut name = scratch(alloc)?;
-    match get_by_key(alloc, store, &base, &key, &mut name) {
-        Ok(held) => Ok(Outcome::Read(store.value(&held)?)),
-        Err(fault) => abrupt(store, fault),
-    }
+    let given = get_by_key(alloc, store, base, key, &mut name);
+    read_outcome(store, given)
 }
 
 // Writes a property by a key that is held.
 fn written_by_key<S: Store>(
     alloc: Global,
     store: &mut S,
-    base: &Value,
-    key: &Value,
+    base: &S::Held,
+    key: &S::Held,
     value: &Value,
 ) -> Result<Outcome, Refused>
-    requires base { IsValue (length (S.view store.old).nodes) base.now }
-    requires key { IsValue (length (S.view store.old).nodes) key.now }
+    requires base { S.owns store.old base.now }
+    requires key { S.owns store.old key.now }
     requires value { IsValue (length (S.view store.old).nodes) value.now }
 {
-    let base = store.hold(base)?;
-    let key = store.hold(key)?;
-    let held = store.hold(value)?;
     let mut name = scratch(alloc)?;
-    match set_by_key(alloc, store, &base, &key, &mut name, &held) {
-        Ok(()) => Ok(Outcome::Wrote),
-        Err(fault) => abrupt(store, fault),
-    }
+    let held = store.hold(value)?;
+    let given = set_by_key(alloc, store, base, key, &mut name, &held);
+    write_outcome(store, given)
 }
 
 // Deletes a property by a key that is held.
 fn deleted_by_key<S: Store>(
     alloc: Global,
     store: &mut S,
-    base: &Value,
-    key: &Value,
+    base: &S::Held,
+    key: &S::Held,
 ) -> Result<Outcome, Refused>
-    requires base { IsValue (length (S.view store.old).nodes) base.now }
-    requires key { IsValue (length (S.view store.old).nodes) key.now }
+    requires base { S.owns store.old base.now }
+    requires key { S.owns store.old key.now }
 {
-    let base = store.hold(base)?;
-    let key = store.hold(key)?;
     let mut name = scratch(alloc)?;
-    match delete_by_key(alloc, store, &base, &key, &mut name) {
-        Ok(answer) => Ok(Outcome::Deleted(answer)),
-        Err(fault) => abrupt(store, fault),
-    }
+    let given = delete_by_key(alloc, store, base, key, &mut name);
+    delete_outcome(store, given)
 }
 
 // Reads a property.
 fn read<S: Store>(
     alloc: Global,
     store: &mut S,
-    base: &Value,
+    base: &S::Held,
     key: &Value,
 ) -> Result<Outcome, Refused>
-    requires { IsValue (length (S.view store.old).nodes) base.now }
+    requires { S.owns store.old base.now }
 {
-    let base = store.hold(base)?;
-    match get(alloc, store, &base, key) {
-        Ok(held) => Ok(Outcome::Read(store.value(&held)?)),
-        Err(fault) => abrupt(store, fault),
-    }
+    let given = get(alloc, store, base, key);
+    read_outcome(store, given)
 }
 
 // Writes a property.
 fn written<S: Store>(
     alloc: Global,
     store: &mut S,
-    base: &Value,
+    base: &S::Held,
     key: &Value,
     value: &Value,
 ) -> Result<Outcome, Refused>
-    requires base { IsValue (length (S.view store.old).nodes) base.now }
+    requires base { S.owns store.old base.now }
     requires value { IsValue (length (S.view store.old).nodes) value.now }
 {
-    let base = store.hold(base)?;
     let held = store.hold(value)?;
-    match set(alloc, store, &base, key, &held) {
-        Ok(()) => Ok(Outcome::Wrote),
-        Err(fault) => abrupt(store, fault),
-    }
+    let given = set(alloc, store, base, key, &held);
+    write_outcome(store, given)
 }
 
 // Deletes a property.
 fn deleted<S: Store>(
     alloc: Global,
     store: &mut S,
-    base: &Value,
+    base: &S::Held,
     key: &Value,
 ) -> Result<Outcome, Refused>
-    requires { IsValue (length (S.view store.old).nodes) base.now }
+    requires { S.owns store.old base.now }
 {
-    let base = store.hold(base)?;
-    match delete(alloc, store, &base, key) {
+    let given = delete(alloc, store, base, key);
+    delete_outcome(store, given)
+}
+
+// What a read came to.
+fn read_outcome<S: Store>(
+    store: &mut S,
+    given: Result<S::Held, Abrupt<S::Held>>,
+) -> Result<Outcome, Refused>
+    requires { Owns cut_of (S.owns store.old) (S.owns store.old) given }
+{
+    match given {
+        Ok(held) => Ok(Outcome::Read(store.value(&held)?)),
+        Err(fault) => abrupt(store, fault),
+    }
+}
+
+// What a write came to.
+fn write_outcome<S: Store>(
+    store: &mut S,
+    given: Result<(), Abrupt<S::Held>>,
+) -> Result<Outcome, Refused>
+    requires { Owns cut_of (S.owns store.old) (λ done. Unit {0}) given }
+{
+    match given {
+        Ok(()) => Ok(Outcome::Wrote),
+        Err(fault) => abrupt(store, fault),
+    }
+}
+
+// What a delete came to.
+fn delete_outcome<S: Store>(
+    store: &mut S,
+    given: Result<bool, Abrupt<S::Held>>,
+) -> Result<Outcome, Refused>
+    requires { Owns cut_of (S.owns store.old) (λ answer. Unit {0}) given }
+{
+    match given {
         Ok(answer) => Ok(Outcome::Deleted(answer)),
         Err(fault) => abrupt(store, fault),
     }

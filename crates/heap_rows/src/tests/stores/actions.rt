@@ -1,7 +1,11 @@
 //! The calls of a store as actions.
 
+ghost use Rattle.std.specs.Prelude.{◌≡◌, ◌<◌, ℕ, length};
+ghost use Rattle.snap_graph.specs.declared.kind.Kind.TheVariants.{Native};
+ghost use Rattle.snap_graph.specs.Intrinsics.{IsNative};
+
 use super::*;
-use crate::tests::objects::last_node;
+use heap_words::last_node;
 use snap_action::{
     ErrorKind, add_element, close_resource, count_elements, freeze_node, is_frozen, kind_of_node,
     list_own_keys, own_property, pop_element, push_element, read_element, read_value, throw_error,
@@ -9,8 +13,7 @@ use snap_action::{
 };
 use snap_graph::ScopeKind;
 use snap_object::Abrupt;
-use snap_store::PlainStore;
-use snap_text::{OwnKeys, StrView};
+use snap_text::{StrView, Units};
 use std::test::Fail;
 
 /// Puts a number behind the elements of a node: of an array as a script does, of any other as a scope or a function is
@@ -84,16 +87,41 @@ fn array<S: Store>(store: &mut S) -> Result<(Option<i64>, Option<i64>, u32), Ref
     Ok((read_at(store, node, 0)?, last, counted(store, node)?))
 }
 
+/// The kind of a block's scope.
+fn block() -> Kind
+    ensures { (number : ℕ) → result ≡ Native number → IsNative number }
+{
+    Kind::Scope {
+        scope: ScopeKind::Block,
+    }
+}
+
 /// What a block's scope comes to that is grown twice: its elements, and how many there are.
 fn scope<S: Store>(store: &mut S) -> Result<(Option<i64>, Option<i64>, u32), Refused> {
-    let block = Kind::Scope {
-        scope: ScopeKind::Block,
-    };
-    let node = made(store, block)?;
+    let node = made(store, block())?;
     grown(store, node, 4)?;
     grown(store, node, 5)?;
     let first = read_at(store, node, 0)?;
     Ok((first, read_at(store, node, 1)?, counted(store, node)?))
+}
+
+/// Freezes a node.
+fn freeze<S: Store>(store: &mut S, node: u32) -> Result<(), Refused> {
+    let last = last_node(store)?;
+    if node > last {
+        return Err(Refused::Row);
+    }
+    freeze_node(store, node);
+    Ok(())
+}
+
+/// What a node is, and whether it is frozen.
+fn marks<S: Store>(store: &mut S, node: u32) -> Result<(Kind, bool), Refused> {
+    let last = last_node(store)?;
+    if node > last {
+        return Err(Refused::Row);
+    }
+    Ok((kind_of_node(store, node), is_frozen(store, node)))
 }
 
 /// What a resource is once it is closed and frozen, and whether it is frozen.
@@ -106,20 +134,12 @@ fn shut<S: Store>(store: &mut S) -> Result<(Kind, bool), Refused> {
     if let Kind::Resource { .. } = store.kind(node) {
         close_resource(store, node);
     }
-    let last = last_node(store)?;
-    if node > last {
-        return Err(Refused::Row);
-    }
-    freeze_node(store, node);
-    let last = last_node(store)?;
-    if node > last {
-        return Err(Refused::Row);
-    }
-    Ok((kind_of_node(store, node), is_frozen(store, node)))
+    freeze(store, node)?;
+    marks(store, node)
 }
 
 /// Whether the own keys of an object with a name and an index behind it are listed in order.
-fn lists_keys<S: Store>(alloc: Global, store: &mut S) -> Result<bool, Refused> {
+pub(super) fn lists_keys<S: Store>(alloc: Global, store: &mut S) -> Result<bool, Refused> {
     let node = made(store, Kind::Plain)?;
     put(alloc, store, node, &[0x61], 1)?;
     put(alloc, store, node, &[0x39], 2)?;
@@ -136,21 +156,34 @@ fn prototype_of<S: Store>(store: &mut S, error: &Value) -> Result<Option<i64>, R
     }
 }
 
+/// Whether what is held is the text `no`.
+fn is_no<S: Store>(store: &S, held: &S::Held) -> Result<bool, Refused>
+    requires { S.owns store.now held.now }
+{
+    match store.value(held)? {
+        Value::Text(text) => Ok(StrView::One(b"no").same(&text)),
+        _ => Ok(false),
+    }
+}
+
+/// Whether what a node holds under a text is the text `no`.
+fn holds_no<S: Store>(store: &mut S, node: u32, text: &Units) -> Result<bool, Refused>
+    requires { node < length (S.view store.old).nodes }
+{
+    let key = use_text(store, text)?;
+    match own_property(store, node, text, key) {
+        Some(held) => is_no(store, &held),
+        None => Ok(false),
+    }
+}
+
 /// Whether what a node holds under `message` is the text `no`.
 fn says_no<S: Store>(alloc: Global, store: &mut S, error: &Value) -> Result<bool, Refused> {
     let text = StrView::One(b"message").copy(alloc)?;
     let last = last_node(store)?;
-    let key = use_text(store, &text)?;
-    let message = match error {
-        Value::Node(node) if *node <= last => own_property(store, *node, &text, key),
-        _ => None,
-    };
-    match message {
-        Some(held) => match store.value(&held)? {
-            Value::Text(text) => Ok(StrView::One(b"no").same(&text)),
-            _ => Ok(false),
-        },
-        None => Ok(false),
+    match error {
+        Value::Node(node) if *node <= last => holds_no(store, *node, &text),
+        _ => Ok(false),
     }
 }
 
@@ -167,36 +200,70 @@ fn thrown<S: Store>(alloc: Global, store: &mut S, kind: ErrorKind) -> Result<Opt
     }
 }
 
-#[test]
-fn does_what_is_asked(rt: HostRuntime) -> Result<(), Fail> {
-    let mut store = PlainStore::new(rt.alloc(), OwnKeys::new(rt.alloc()))?;
-    assert_eq!(rt; array(&mut store)?, (Some(3), Some(2), 1));
-    assert_eq!(rt; scope(&mut store)?, (Some(4), Some(5), 2));
+/// Whether an array comes to what it should.
+pub(super) fn array_holds<S: Store>(store: &mut S) -> Result<bool, Refused> {
+    Ok(array(store)? == (Some(3), Some(2), 1))
+}
+
+/// Whether a block's scope comes to what it should.
+pub(super) fn scope_holds<S: Store>(store: &mut S) -> Result<bool, Refused> {
+    Ok(scope(store)? == (Some(4), Some(5), 2))
+}
+
+/// Whether a resource comes to what it should.
+pub(super) fn resource_holds<S: Store>(store: &mut S) -> Result<bool, Refused> {
     let closed = Kind::Resource {
         number: 5,
         closed: true,
     };
-    assert_eq!(rt; shut(&mut store)?, (closed, true));
-    assert!(rt; lists_keys(rt.alloc(), &mut store)?);
+    Ok(shut(store)? == (closed, true))
+}
+
+/// The errors, and the numbers of their prototypes, which stand in the order of the intrinsics: Error, TypeError, ReferenceError,
+/// RangeError from number 6 on.
+const ERRORS: [(ErrorKind, i64); 4] = [
+    (ErrorKind::Error, 6),
+    (ErrorKind::TypeError, 7),
+    (ErrorKind::ReferenceError, 8),
+    (ErrorKind::RangeError, 9),
+];
+
+/// Whether each error that is thrown has its prototype and its message.
+pub(super) fn errors_hold<S: Store>(alloc: Global, store: &mut S) -> Result<bool, Refused> {
+    for (kind, number) in ERRORS {
+        if thrown(alloc, store, kind)? != Some(number) {
+            return Ok(false);
+        }
+    }
+    Ok(true)
+}
+
+#[test]
+fn grows_and_pops_an_array(rt: HostRuntime) -> Result<(), Fail> {
+    assert!(rt; holds_plain(rt.alloc(), Case::Array)?);
     Ok(())
 }
 
-// The prototypes stand in the order of the intrinsics: Error, TypeError, ReferenceError, RangeError from number 6 on.
+#[test]
+fn grows_a_scope(rt: HostRuntime) -> Result<(), Fail> {
+    assert!(rt; holds_plain(rt.alloc(), Case::Scope)?);
+    Ok(())
+}
+
+#[test]
+fn shuts_a_resource(rt: HostRuntime) -> Result<(), Fail> {
+    assert!(rt; holds_plain(rt.alloc(), Case::Resource)?);
+    Ok(())
+}
+
+#[test]
+fn lists_keys_in_order(rt: HostRuntime) -> Result<(), Fail> {
+    assert!(rt; holds_plain(rt.alloc(), Case::OwnKeys)?);
+    Ok(())
+}
+
 #[test]
 fn throws_each_error(rt: HostRuntime) -> Result<(), Fail> {
-    let mut store = PlainStore::new(rt.alloc(), OwnKeys::new(rt.alloc()))?;
-    assert_eq!(rt; thrown(rt.alloc(), &mut store, ErrorKind::Error)?, Some(6));
-    assert_eq!(rt;
-        thrown(rt.alloc(), &mut store, ErrorKind::TypeError)?,
-        Some(7)
-    );
-    assert_eq!(rt;
-        thrown(rt.alloc(), &mut store, ErrorKind::ReferenceError)?,
-        Some(8)
-    );
-    assert_eq!(rt;
-        thrown(rt.alloc(), &mut store, ErrorKind::RangeError)?,
-        Some(9)
-    );
+    assert!(rt; holds_plain(rt.alloc(), Case::Errors)?);
     Ok(())
 }

@@ -1,7 +1,7 @@
 //! The plain store.
 
 use super::*;
-use crate::tests::refused::is_refused;
+use heap_words::is_refused;
 use snap_store::{PlainStore, StoreFault, intrinsics};
 use snap_text::OwnKeys;
 use std::test::Fail;
@@ -17,7 +17,7 @@ const NINE: &[u16] = &[0x39];
 const TEN: &[u16] = &[0x31, 0x30];
 
 /// A store of the intrinsics alone.
-fn plain(alloc: Global) -> Result<PlainStore<OwnKeys>, Refused> {
+pub(super) fn plain(alloc: Global) -> Result<PlainStore<OwnKeys>, Refused> {
     Ok(PlainStore::new(alloc, OwnKeys::new(alloc))?)
 }
 
@@ -55,13 +55,16 @@ fn properties_kept<S: Store>(
     Ok((wrong, in_order))
 }
 
+/// Whether all of them answer so, and the keys are in order then.
+pub(super) fn properties_hold<S: Store>(alloc: Global, store: &mut S) -> Result<bool, Refused> {
+    Ok(properties_kept(alloc, store)? == (None, true))
+}
+
 // The order of own keys is that of Node.js: indices ascend, a key that is written stays, and one that is removed
 // and created again goes last.
 #[test]
 fn keeps_properties(rt: HostRuntime) -> Result<(), Fail> {
-    let mut store = plain(rt.alloc())?;
-    let kept = properties_kept(rt.alloc(), &mut store)?;
-    assert_eq!(rt; kept, (None, true));
+    assert!(rt; holds_plain(rt.alloc(), Case::Properties)?);
     Ok(())
 }
 
@@ -81,11 +84,14 @@ const ELEMENTS: [(Step<'static>, Option<i64>); 12] = [
     (Step::Element(0), Some(3)),
 ];
 
+/// Whether all of them answer so.
+pub(super) fn elements_hold<S: Store>(alloc: Global, store: &mut S) -> Result<bool, Refused> {
+    Ok(played_anew(alloc, store, Kind::Array, &ELEMENTS)? == None)
+}
+
 #[test]
 fn keeps_elements(rt: HostRuntime) -> Result<(), Fail> {
-    let mut store = plain(rt.alloc())?;
-    let wrong = played_anew(rt.alloc(), &mut store, Kind::Array, &ELEMENTS)?;
-    assert_eq!(rt; wrong, None);
+    assert!(rt; holds_plain(rt.alloc(), Case::Elements)?);
     Ok(())
 }
 
@@ -109,11 +115,14 @@ fn marks<S: Store>(store: &mut S) -> Result<(Kind, Kind, Option<i64>), Refused> 
     Ok((before, store.kind(node), number(Some(prototype))))
 }
 
+/// Whether they are what they should be.
+pub(super) fn marks_hold<S: Store>(store: &mut S) -> Result<bool, Refused> {
+    Ok(marks(store)? == (OPEN, SHUT, None))
+}
+
 #[test]
 fn keeps_marks(rt: HostRuntime) -> Result<(), Fail> {
-    let mut store = plain(rt.alloc())?;
-    let kept = (OPEN, SHUT, None);
-    assert_eq!(rt; marks(&mut store)?, kept);
+    assert!(rt; holds_plain(rt.alloc(), Case::Marks)?);
     Ok(())
 }
 
@@ -141,30 +150,38 @@ fn keeps_graphs(rt: HostRuntime) -> Result<(), Fail> {
 }
 
 /// Makes so many plain objects.
-fn made_often(store: &mut PlainStore<OwnKeys>, count: u32) -> Result<(), Refused> {
-    for _ in 0..count {
+fn made_often<S: Store>(store: &mut S, count: u32) -> Result<(), Refused> {
+    for _turn in 0..count {
         made(store, Kind::Plain)?;
     }
     Ok(())
 }
 
+/// Whether so many nodes may be private, and no more.
+pub(super) fn many_nodes_hold<S: Store>(store: &mut S) -> Result<bool, Refused> {
+    made_often(store, 1_048_576)?;
+    let count = store.private_nodes();
+    let another = made(store, Kind::Plain);
+    Ok(count == 1_048_576 && is_refused(another, StoreFault::TooManyNodes)?)
+}
+
 #[test]
 fn has_room_for_nodes(rt: HostRuntime) -> Result<(), Fail> {
-    let mut store = plain(rt.alloc())?;
-    made_often(&mut store, 1_048_576)?;
-    assert_eq!(rt; store.private_nodes(), 1_048_576);
-    let another = made(&mut store, Kind::Plain);
-    assert!(rt; is_refused(another, StoreFault::TooManyNodes)?);
+    assert!(rt; holds_plain(rt.alloc(), Case::ManyNodes)?);
     Ok(())
+}
+
+/// Whether an array may have so many elements, and no more.
+pub(super) fn many_elements_hold<S: Store>(store: &mut S) -> Result<bool, Refused> {
+    let node = made(store, Kind::Array)?;
+    let all = filled(store, node, 16_777_216)?;
+    let count = store.count(node);
+    let another = pushed(store, node, 0);
+    Ok(all && count == 16_777_216 && is_refused(another, StoreFault::TooLong)?)
 }
 
 #[test]
 fn has_room_for_elements(rt: HostRuntime) -> Result<(), Fail> {
-    let mut store = plain(rt.alloc())?;
-    let node = made(&mut store, Kind::Array)?;
-    assert!(rt; filled(&mut store, node, 16_777_216)?);
-    assert_eq!(rt; store.count(node), 16_777_216);
-    let another = pushed(&mut store, node, 0);
-    assert!(rt; is_refused(another, StoreFault::TooLong)?);
+    assert!(rt; holds_plain(rt.alloc(), Case::ManyElements)?);
     Ok(())
 }

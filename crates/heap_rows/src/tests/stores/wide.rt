@@ -1,11 +1,11 @@
 //! A node of as many properties as it may have.
 
-ghost use Rattle.std.specs.Prelude.{◌≡◌, ◌+◌, ◌++◌, ◌∷◌, [], length, IfOk};
+ghost use Rattle.std.specs.Prelude.{◌≡◌, ◌<◌, ◌+◌, ◌++◌, ◌∷◌, [], length, IfOk};
 ghost use Rattle.heap_rows.specs.Wide.{many, property_of, wide};
 ghost use Rattle.snap_graph.specs.Lawful.{IsLawful};
 
 use super::*;
-use crate::tests::refused::is_refused;
+use heap_words::is_refused;
 use snap_graph::{Graph, Items, Node, Property, intrinsics_are_a_heap};
 use snap_store::{PlainStore, StoreFault, intrinsics};
 use snap_text::{NoMemory, OwnKeys};
@@ -72,11 +72,18 @@ const ONE_OF_THEM: &[u16] = &[65_535, 15];
 
 const ANOTHER: &[u16] = &[0, 16];
 
+/// Whether one of them is written, and another refused.
+fn has_no_more<S: Store>(alloc: Global, store: &mut S, node: u32) -> Result<bool, Refused>
+    requires { node < length (S.view store.old).nodes }
+{
+    let wrote = put(alloc, store, node, ONE_OF_THEM, 0)?;
+    let another = put(alloc, store, node, ANOTHER, 0);
+    Ok(wrote && is_refused(another, StoreFault::TooLong)?)
+}
+
 #[test]
 fn has_room_for_properties(rt: HostRuntime) -> Result<(), Fail> {
     let mut store = wide_store(rt.alloc(), 1_048_576)?;
-    assert!(rt; put(rt.alloc(), &mut store, 62, ONE_OF_THEM, 0)?);
-    let another = put(rt.alloc(), &mut store, 62, ANOTHER, 0);
-    assert!(rt; is_refused(another, StoreFault::TooLong)?);
+    assert!(rt; has_no_more(rt.alloc(), &mut store, 62)?);
     Ok(())
 }

@@ -1,0 +1,4 @@
+//! Operators, and texts that a store holds.
+
+mod operators;
+mod texts;

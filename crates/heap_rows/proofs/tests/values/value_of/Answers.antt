@@ -1,4 +1,0 @@
-use Rattle.heap_rows.proofs.tests.values.value_of.Goals as goal
-
-pub returns-in-None : goal.returns-in-None
-returns-in-None c = λ count last. c.number_or_text.ensures count
