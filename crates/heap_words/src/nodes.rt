@@ -18,6 +18,7 @@ pub fn new_node<S: Store>(store: &mut S, kind: Kind, prototype: &Value) -> Resul
     requires native { (number : ℕ) → kind ≡ Native number → IsNative number }
     ensures number { IfOk result (λ number. number < length (S.view store.new).nodes) }
     ensures grows { length (S.view store.old).nodes ≤ length (S.view store.new).nodes }
+    ensures later { S.later store.old store.new }
 {
     let held = store.hold(prototype)?;
     Ok(store.make(kind, &held)?)
@@ -25,7 +26,8 @@ pub fn new_node<S: Store>(store: &mut S, kind: Kind, prototype: &Value) -> Resul
 
 /// A node that is there, which is made for it: no node has a greater number.
 pub fn last_node<S: Store>(store: &mut S) -> Result<u32, Refused>
-    ensures { IfOk result (λ last. last < length (S.view store.new).nodes) }
+    ensures number { IfOk result (λ last. last < length (S.view store.new).nodes) }
+    ensures later { S.later store.old store.new }
 {
     new_node(store, Kind::Plain, &Value::Null)
 }

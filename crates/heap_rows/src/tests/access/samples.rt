@@ -87,8 +87,8 @@ fn kind_of(word: &str) -> Kind
     }
 }
 
-// Whether a value may be a prototype of what is no scope.
-fn may_be_prototype<S: Store>(store: &S, last: u32, value: &Value) -> bool
+/// Whether a value may be a prototype of what is no scope.
+pub(crate) fn may_be_prototype<S: Store>(store: &S, last: u32, value: &Value) -> bool
     requires { last < length (S.view store.now).nodes }
     ensures { (kind : Kind) → is_scope kind ≡ false → result ≡ true → IsPrototype (S.view store.now).nodes kind value.now }
 {
