@@ -1,5 +1,5 @@
 #!/usr/bin/env node
-// Asks Node.js what reading, writing and deleting properties gives, for the tables of the tests of property access.
+// Asks Node.js what reading, writing, deleting and testing properties gives, for the tables of the tests of property access.
 //
 // Usage, from the root of the repository: node bench/properties.js [--print]
 //
@@ -34,6 +34,7 @@ function objects() {
 }
 
 const INTRINSICS = new Map([
+  [Map.prototype, 4], [Set.prototype, 5],
   [Object, 10], [Array, 11], [String, 12], [Map, 13], [Set, 14], [Error, 15],
   [Object.prototype.hasOwnProperty, 24], [Array.prototype.push, 31], [Array.prototype.join, 28],
   [Array.prototype.slice, 32], [String.prototype.slice, 34], [String.prototype.charCodeAt, 33],
@@ -88,6 +89,18 @@ ROWS.push(
   "set 'abc' 'x' 1", "set '' 'x' 1", "set #68 'size' 1", "set #69 'size' 1",
 );
 
+// Tests of own properties, which look at no prototype.
+for (const name of ["'a'", "'c'", "'hasOwnProperty'", "''"]) ROWS.push(`hasOwn #62 ${name}`, `hasOwn #63 ${name}`);
+for (const base of ['#64', "'abc'", "''"]) {
+  for (const key of ['0', "'0'", '2', "'2'", '3', '-1', "'01'", "'length'", "'slice'"]) ROWS.push(`hasOwn ${base} ${key}`);
+}
+ROWS.push(
+  "hasOwn #72 'a'", "hasOwn #72 'constructor'", "hasOwn #73 0", "hasOwn #73 'length'", "hasOwn #71 'k'", "hasOwn #66 'q'", "hasOwn #67 'q'",
+  "hasOwn #70 'message'", "hasOwn #70 'name'", "hasOwn #68 'size'", "hasOwn #69 'add'", "hasOwn #62 true", "hasOwn #62 undefined",
+  "hasOwn #4 'size'", "hasOwn #5 'size'", "hasOwn #4 'get'", "hasOwn #10 'keys'", "hasOwn #10 'push'", "hasOwn undefined 'a'", "hasOwn null 0", "set #62 'd' undefined; hasOwn #62 'd'", "delete #62 'a'; hasOwn #62 'a'",
+  "set #63 'a' 5; hasOwn #63 'a'", "set #64 3 9; hasOwn #64 3", "set #62 7 1; hasOwn #62 '7'",
+);
+
 // This profile stops there, where ECMA-262 goes on.
 const STOPS = [
   ["get true 'a'", 'undefined'], ["get 5 'a'", 'undefined'], ["get 5 0", 'undefined'], ["delete true 'a'", 'true'],
@@ -96,6 +109,8 @@ const STOPS = [
   ["delete #64 0", 'true'], ["delete #64 'length'", 'TypeError'], ["delete #64 9", 'true'], ["delete #65 0", 'TypeError'],
   ["get #70 'stack'", null], ["set #70 'stack' 1", 'ok'], ["delete #70 'stack'", 'true'],
   ["get #62 '__proto__'", null], ["set #62 '__proto__' null", 'ok'], ["delete #62 '__proto__'", 'true'], ["get 'abc' '__proto__'", null],
+  ["hasOwn #70 'stack'", null], ["hasOwn #10 'name'", 'true'], ["hasOwn #24 'length'", 'true'], ["hasOwn #62 '__proto__'", null], ["hasOwn 'abc' '__proto__'", null], ["hasOwn true 'a'", 'false'],
+  ["hasOwn 5 0", 'false'], ["hasOwn #62 #64", 'false'], ["hasOwn 'abc' #64", 'false'], ["hasOwn undefined #64", 'TypeError'],
   ["get #62 #64", 'undefined'], ["set #62 #64 1", 'ok'], ["delete #62 #64", 'true'],
 ];
 
@@ -119,7 +134,8 @@ const split = (step) => step.match(/'[^']*'|\S+/g);
 
 function answerOf(row) {
   const nodes = objects();
-  const valueOf = (word) => (word.startsWith('#') ? nodes[Number(word.slice(1)) - 62] : new Function(`return ${word};`)());
+  const nodeOf = (number) => (number < 62 ? [...INTRINSICS].find(([, n]) => n === number)[0] : nodes[number - 62]);
+  const valueOf = (word) => (word.startsWith('#') ? nodeOf(Number(word.slice(1))) : new Function(`return ${word};`)());
   let answer;
   for (const step of row.split('; ')) {
     const [verb, base, key, held] = split(step);
@@ -127,6 +143,7 @@ function answerOf(row) {
       if (verb === 'get') answer = wordOf(valueOf(base)[valueOf(key)], nodes);
       else if (verb === 'set') { valueOf(base)[valueOf(key)] = valueOf(held); answer = 'ok'; }
       else if (verb === 'delete') answer = String(delete valueOf(base)[valueOf(key)]);
+      else if (verb === 'hasOwn') answer = String(Object.prototype.hasOwnProperty.call(valueOf(base), valueOf(key)));
       else answer = Object.keys(valueOf(base)).join(',');
     } catch (error) {
       answer = error.constructor.name;

@@ -1,4 +1,5 @@
-//! Operators, and texts that a store holds.
+//! Operators, what is asked of values, and texts that a store holds.
 
+mod asked;
 mod operators;
 mod texts;

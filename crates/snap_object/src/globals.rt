@@ -43,6 +43,7 @@ pub fn find_global<S: Store>(
     requires known { IsKnown (S.key_of store.old) name.old }
     ensures gives { Gives S.Store store.old store.new (as_global S.Store store.new name.old.text) result (find_global global name.old.text) }
     ensures kept { StaysKnown (S.key_of store.new) name.old name.new }
+    ensures nodes { OnOk result ((S.view store.new).nodes ≡ (S.view store.old).nodes) }
 {
     let key = named_key(store, name)?;
     found_global(alloc, store, global, name.text(), key)
@@ -58,7 +59,8 @@ fn found_global<S: Store>(
 ) -> Result<FoundGlobal<S::Held>, Abrupt<S::Held>>
     requires number { global < length (S.view store.old).nodes }
     requires key { S.key_of store.old name.now ≡ Some key }
-    ensures { Gives S.Store store.old store.new (as_global S.Store store.new name.now) result (found_from (At global) name.now global) }
+    ensures gives { Gives S.Store store.old store.new (as_global S.Store store.new name.now) result (found_from (At global) name.now global) }
+    ensures nodes { OnOk result ((S.view store.new).nodes ≡ (S.view store.old).nodes) }
 {
     match find_value(alloc, store, &Value::Node(global), name, key, global) {
         Ok(held) => Ok(FoundGlobal { key, held }),

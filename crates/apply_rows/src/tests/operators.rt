@@ -1,5 +1,5 @@
 //! Tests of what no clause says.
 
-mod beside_node;
+pub(crate) mod beside_node;
 mod limits;
 mod samples;

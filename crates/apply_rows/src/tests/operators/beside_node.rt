@@ -779,8 +779,8 @@ fn joins_values<S: Store>(
     is_held_given(alloc, store, given, answer)
 }
 
-// Whether what an operator gives of what a store holds is the answer of a row.
-fn is_held_given<S: Store>(
+/// Whether what an operator gives of what a store holds is the answer of a row.
+pub(crate) fn is_held_given<S: Store>(
     alloc: Global,
     store: &S,
     given: Result<S::Held, Abrupt<S::Held>>,

@@ -1,4 +1,4 @@
-//! Property access beside what Node.js gives of the same objects: `node bench/properties.js` asks it again.
+//! Property access and tests of own properties beside what Node.js gives of the same objects: `node bench/properties.js` asks it again.
 //!
 //! A row is one or more steps, and what the last one comes to. A node is written as # with its number; those from
 //! 62 on are made for each row anew. The profile differs from Node.js in three ways, and each has a table of its
@@ -248,6 +248,66 @@ set 'abc' 'x' 1 = TypeError
 set '' 'x' 1 = TypeError
 set #68 'size' 1 = TypeError
 set #69 'size' 1 = TypeError
+hasOwn #62 'a' = true
+hasOwn #63 'a' = false
+hasOwn #62 'c' = false
+hasOwn #63 'c' = true
+hasOwn #62 'hasOwnProperty' = false
+hasOwn #63 'hasOwnProperty' = false
+hasOwn #62 '' = false
+hasOwn #63 '' = false
+hasOwn #64 0 = true
+hasOwn #64 '0' = true
+hasOwn #64 2 = true
+hasOwn #64 '2' = true
+hasOwn #64 3 = false
+hasOwn #64 -1 = false
+hasOwn #64 '01' = false
+hasOwn #64 'length' = true
+hasOwn #64 'slice' = false
+hasOwn 'abc' 0 = true
+hasOwn 'abc' '0' = true
+hasOwn 'abc' 2 = true
+hasOwn 'abc' '2' = true
+hasOwn 'abc' 3 = false
+hasOwn 'abc' -1 = false
+hasOwn 'abc' '01' = false
+hasOwn 'abc' 'length' = true
+hasOwn 'abc' 'slice' = false
+hasOwn '' 0 = false
+hasOwn '' '0' = false
+hasOwn '' 2 = false
+hasOwn '' '2' = false
+hasOwn '' 3 = false
+hasOwn '' -1 = false
+hasOwn '' '01' = false
+hasOwn '' 'length' = true
+hasOwn '' 'slice' = false
+hasOwn #72 'a' = true
+hasOwn #72 'constructor' = false
+hasOwn #73 0 = false
+hasOwn #73 'length' = false
+hasOwn #71 'k' = true
+hasOwn #66 'q' = true
+hasOwn #67 'q' = false
+hasOwn #70 'message' = true
+hasOwn #70 'name' = false
+hasOwn #68 'size' = false
+hasOwn #69 'add' = false
+hasOwn #62 true = false
+hasOwn #62 undefined = false
+hasOwn #4 'size' = true
+hasOwn #5 'size' = true
+hasOwn #4 'get' = true
+hasOwn #10 'keys' = true
+hasOwn #10 'push' = false
+hasOwn undefined 'a' = TypeError
+hasOwn null 0 = TypeError
+set #62 'd' undefined; hasOwn #62 'd' = true
+delete #62 'a'; hasOwn #62 'a' = false
+set #63 'a' 5; hasOwn #63 'a' = true
+set #64 3 9; hasOwn #64 3 = true
+set #62 7 1; hasOwn #62 '7' = true
 ";
 
 /// Node.js goes on with these.
@@ -275,6 +335,16 @@ get #62 '__proto__' = NotInProfile
 set #62 '__proto__' null = NotInProfile
 delete #62 '__proto__' = NotInProfile
 get 'abc' '__proto__' = NotInProfile
+hasOwn #70 'stack' = NotInProfile
+hasOwn #10 'name' = NotInProfile
+hasOwn #24 'length' = NotInProfile
+hasOwn #62 '__proto__' = NotInProfile
+hasOwn 'abc' '__proto__' = NotInProfile
+hasOwn true 'a' = NotInProfile
+hasOwn 5 0 = NotInProfile
+hasOwn #62 #64 = NotInProfile
+hasOwn 'abc' #64 = NotInProfile
+hasOwn undefined #64 = NotInProfile
 get #62 #64 = NotInProfile
 set #62 #64 1 = NotInProfile
 delete #62 #64 = NotInProfile
@@ -329,6 +399,8 @@ fn is_outcome(alloc: Global, outcome: &Outcome, answer: &str) -> Result<bool, Re
         Outcome::Read(value) => is_value_of(alloc, value, answer),
         Outcome::Wrote => Ok(answer == "ok"),
         Outcome::Deleted(deleted) => Ok(*deleted && answer == "true"),
+        Outcome::Told(true) => Ok(answer == "true"),
+        Outcome::Told(false) => Ok(answer == "false"),
         Outcome::Keys(keys) => Ok(are_listed(keys.as_slice(), answer)),
         Outcome::TypeError => Ok(answer == "TypeError"),
         Outcome::Stopped(why) => Ok(*why == Stop::NotInProfile && answer == "NotInProfile"),

@@ -9,8 +9,8 @@ use heap_words::{Refused, last_node, takes_properties, value_of};
 use snap_base::Stop;
 use snap_graph::Value;
 use snap_object::{
-    Abrupt, Name, delete, delete_by_key, delete_by_name, get, get_by_key, get_by_name, set,
-    set_by_key, set_by_name,
+    Abrupt, Name, delete, delete_by_key, delete_by_name, get, get_by_key, get_by_name, has_own,
+    has_own_by_key, has_own_by_name, set, set_by_key, set_by_name,
 };
 use snap_store::Store;
 use snap_text::{StrView, Units, decimal};
@@ -25,6 +25,8 @@ pub(crate) enum Outcome {
     Wrote,
     /// A delete that was done, and its answer.
     Deleted(bool),
+    /// Whether there is a property.
+    Told(bool),
     /// The texts of own keys.
     Keys(Vec<Units>),
     /// A TypeError that was thrown.
@@ -50,6 +52,7 @@ enum Access {
     Get,
     Set,
     Delete,
+    HasOwn,
 }
 
 /// What a step does.
@@ -67,6 +70,7 @@ fn verb_of(word: &str) -> Option<Verb> {
         "get" => Some(Verb::Access(Access::Get)),
         "set" => Some(Verb::Access(Access::Set)),
         "delete" => Some(Verb::Access(Access::Delete)),
+        "hasOwn" => Some(Verb::Access(Access::HasOwn)),
         "put" => Some(Verb::Put),
         "freeze" => Some(Verb::Freeze),
         "keys" => Some(Verb::Keys),
@@ -149,6 +153,7 @@ fn valued<S: Store>(
         Access::Get => read(alloc, store, base, &given.key),
         Access::Set => written(alloc, store, base, &given.key, &given.value),
         Access::Delete => deleted(alloc, store, base, &given.key),
+        Access::HasOwn => told(alloc, store, base, &given.key),
     }
 }
 
@@ -208,6 +213,7 @@ fn by_name<S: Store>(
         Access::Get => read_by_name(alloc, store, base, &mut name),
         Access::Set => written_by_name(alloc, store, base, &mut name, value),
         Access::Delete => deleted_by_name(alloc, store, base, &mut name),
+        Access::HasOwn => told_by_name(alloc, store, base, &mut name),
     }
 }
 
@@ -256,6 +262,20 @@ fn deleted_by_name<S: Store>(
     delete_outcome(store, given)
 }
 
+// Tests an own property by a name.
+fn told_by_name<S: Store>(
+    alloc: Global,
+    store: &mut S,
+    base: &S::Held,
+    name: &mut Name,
+) -> Result<Outcome, Refused>
+    requires base { S.owns store.old base.now }
+    requires known { IsKnown (S.key_of store.old) name.old }
+{
+    let given = has_own_by_name(alloc, store, base, name);
+    told_outcome(store, given)
+}
+
 // A name to work in. Its own text is one that no access goes on with, so that an access by it would be seen.
 fn scratch(alloc: Global) -> Result<Name, Refused> {
     Ok(Name::new(StrView::One(b"__proto__").copy(alloc)?))
@@ -278,6 +298,7 @@ fn keyed<S: Store>(
         Access::Get => read_by_key(alloc, store, base, &key),
         Access::Set => written_by_key(alloc, store, base, &key, &given.value),
         Access::Delete => deleted_by_key(alloc, store, base, &key),
+        Access::HasOwn => told_by_key(alloc, store, base, &key),
     }
 }
 
@@ -329,6 +350,21 @@ fn deleted_by_key<S: Store>(
     delete_outcome(store, given)
 }
 
+// Tests an own property by a key that is held.
+fn told_by_key<S: Store>(
+    alloc: Global,
+    store: &mut S,
+    base: &S::Held,
+    key: &S::Held,
+) -> Result<Outcome, Refused>
+    requires base { S.owns store.old base.now }
+    requires key { S.owns store.old key.now }
+{
+    let mut name = scratch(alloc)?;
+    let given = has_own_by_key(alloc, store, base, key, &mut name);
+    told_outcome(store, given)
+}
+
 // Reads a property.
 fn read<S: Store>(
     alloc: Global,
@@ -371,6 +407,19 @@ fn deleted<S: Store>(
     delete_outcome(store, given)
 }
 
+// Tests an own property.
+fn told<S: Store>(
+    alloc: Global,
+    store: &mut S,
+    base: &S::Held,
+    key: &Value,
+) -> Result<Outcome, Refused>
+    requires { S.owns store.old base.now }
+{
+    let given = has_own(alloc, store, base, key);
+    told_outcome(store, given)
+}
+
 // What a read came to.
 fn read_outcome<S: Store>(
     store: &mut S,
@@ -406,6 +455,19 @@ fn delete_outcome<S: Store>(
 {
     match given {
         Ok(answer) => Ok(Outcome::Deleted(answer)),
+        Err(fault) => abrupt(store, fault),
+    }
+}
+
+// What a test came to.
+fn told_outcome<S: Store>(
+    store: &mut S,
+    given: Result<bool, Abrupt<S::Held>>,
+) -> Result<Outcome, Refused>
+    requires { Owns cut_of (S.owns store.old) (λ answer. Unit {0}) given }
+{
+    match given {
+        Ok(answer) => Ok(Outcome::Told(answer)),
         Err(fault) => abrupt(store, fault),
     }
 }

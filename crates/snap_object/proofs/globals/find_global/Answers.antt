@@ -14,4 +14,4 @@ returns-in_err-key-clause-gives g c =
 pub returns-clause-gives : goal.returns-clause-gives
 returns-clause-gives g c =
     chained g.met.S.Store.later_still (λ a b text h. g.met.S.Store.keeps_left_out a b text h) (named_key (Text c.args.name.now.text)) (λ name. found_from (At c.args.global) name c.args.global) c.in_ok-key.ensures.gives
-    (found_as c.args.global c.text.result.now c.args.name.now.text (c.text.ensures ∙ c.in_ok-key.ensures.kept.text) c.found_global.ensures)
+    (found_as c.args.global c.text.result.now c.args.name.now.text (c.text.ensures ∙ c.in_ok-key.ensures.kept.text) c.found_global.ensures.gives)
