@@ -1,12 +1,12 @@
 -- Bases and keys that are texts.
-use Rattle.std.proofs.Common.{◌≡◌, ℕ, zero, suc, Bool, true, false, ◌<◌, ◌-◌, ◌+◌, List, [], ◌∷◌, length, take, drop, slice_get, Option, None, Some, is_some, if◌then◌else◌, refl, sym, ap, ◌∙◌, arith}
+use Rattle.std.proofs.Common.{◌≡◌, ℕ, zero, suc, Bool, true, false, ◌<◌, ◌-◌, ◌+◌, List, [], ◌∷◌, length, take, drop, slice_get, Option, None, Some, is_some, if◌then◌else◌, refl, ap, ◌∙◌, arith}
 use Rattle.std.proofs.lemmas.Bool.{false≢true}
 use Rattle.snap_base.specs.declared.stop.Stop.TheVariants.{NotInProfile}
 use Rattle.snap_graph.specs.declared.intrinsic.TheConstants.{STRING_PROTOTYPE}
 use Rattle.snap_graph.specs.declared.value.Value.{Value}
 use Rattle.snap_graph.specs.declared.value.Value.TheVariants.{Undefined, Null, Bool as Truth, Int, Node as At, Text, Empty}
 use Rattle.snap_store.specs.Calls.{text_units, units_in}
-use Rattle.spec_values.specs.Access.{delete, found_or, is_size, is_special, is_there, look_up, or_undefined, reached_from, set, size_of, unit_or_undefined}
+use Rattle.spec_values.specs.Access.{delete, found_or, is_size, is_special, look_up, or_undefined, reached_from, size_of, unit_or_undefined}
 use Rattle.spec_values.specs.Answer.{◌>>=◌, Heap, followed, give, stop}
 use Rattle.spec_values.specs.Operations.{kind_of, own_value}
 use Rattle.snap_object.specs.Parts.{looked_up}
@@ -22,29 +22,7 @@ is_its_text (Text text) e = refl
 is_its_text (At number) e = absurd (false≢true e)
 is_its_text Empty e = absurd (false≢true e)
 
-pub is_no_text : (value : Value) → is_some (text_units value) ≡ false → text_units value ≡ None
-is_no_text Undefined e = refl
-is_no_text Null e = refl
-is_no_text (Truth b) e = refl
-is_no_text (Int z) e = refl
-is_no_text (Text text) e = absurd (false≢true (sym e))
-is_no_text (At number) e = refl
-is_no_text Empty e = refl
-
--- the mark of an empty place is no text
-pub text_is_there : (value : Value) → is_some (text_units value) ≡ true → is_there value ≡ true
-text_is_there value e = ap is_there (sym (is_its_text value e))
-
--- what a write and a removal come to hangs on no unit of a base
-pub set_alike : (base key held : Value) (heap : Heap) → set (without_units base) key held heap ≡ set base key held heap
-set_alike Undefined key held heap = refl
-set_alike Null key held heap = refl
-set_alike (Truth b) key held heap = refl
-set_alike (Int z) key held heap = refl
-set_alike (Text text) key held heap = refl
-set_alike (At number) key held heap = refl
-set_alike Empty key held heap = refl
-
+-- what a removal comes to hangs on no unit of a base
 pub delete_alike : (base key : Value) (heap : Heap) → delete (without_units base) key heap ≡ delete base key heap
 delete_alike Undefined key heap = refl
 delete_alike Null key heap = refl
@@ -53,18 +31,6 @@ delete_alike (Int z) key heap = refl
 delete_alike (Text text) key heap = refl
 delete_alike (At number) key heap = refl
 delete_alike Empty key heap = refl
-
-pub without_text : (value : Value) → is_some (text_units value) ≡ false → value ≡ without_units value
-without_text Undefined e = refl
-without_text Null e = refl
-without_text (Truth b) e = refl
-without_text (Int z) e = refl
-without_text (Text text) e = absurd (false≢true (sym e))
-without_text (At number) e = refl
-without_text Empty e = refl
-
-pub text_without : (value : Value) → is_some (text_units value) ≡ true → Text [] ≡ without_units value
-text_without value e = ap without_units (is_its_text value e)
 
 -- a text has no `size`, as undefined has none
 module _ (text name : List ℕ) where
